@@ -1,0 +1,4 @@
+pub mod First
+pub mod Fronts
+pub mod Records
+pub mod Unique

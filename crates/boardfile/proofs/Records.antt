@@ -1,0 +1,36 @@
+-- A count, and a run of records, one after another. Assumes nothing.
+use Prim.Native.Nat.{ℕ, _+_, _*_, _≤_, _<_}
+use mathlib.Core.Path.{_≡_, ap, sym, _∙_}
+use mathlib.Core.List.{List, [], _∷_, _++_}
+use native.Mathlib.Omega.{arith}
+use lib.ListN.{length, drop, getD}
+use Rattle.std.specs.Joined.{joined}
+use Rattle.std.proofs.shelf.Lists.{append-nil, append-assoc, joined-more, nil-from-length}
+use Rattle.calls.specs.declared.call.Call.{Call}
+use Rattle.boardfile.specs.Layout.{high, low, event-bytes}
+use Rattle.boardfile.specs.Fits.{Event-fits, Events-fit}
+use Rattle.boardfile.specs.Faults.{count-of}
+
+-- bytes that begin with the count n, and go on as x
+pub after-count : (b x : List ℕ) (n : ℕ) → 2 ≤ length b → getD b 1 0 < 256 → count-of b ≡ n → drop 2 b ≡ x → b ≡ high n ∷ low n ∷ x
+after-count [] x n h l e p = absurd (omega arith)
+after-count (first ∷ []) x n h l e p = absurd (omega arith)
+after-count (first ∷ second ∷ xs) x n h l e p =
+    let a : high n ≡ first = omega arith in
+    let c : low n ≡ second = omega arith in
+    rw (a, c) (ap (λ (r : List ℕ). first ∷ second ∷ r) p)
+
+-- one event more, off the front of what is left
+pub events-more : (b : List ℕ) (es : List Call) (e : Call) (rest more : List ℕ) → b ≡ joined event-bytes es ++ rest → rest ≡ event-bytes e ++ more → b ≡ joined event-bytes (es ++ e ∷ []) ++ more
+events-more b es e rest more p q =
+    p ∙ ap (λ (r : List ℕ). joined event-bytes es ++ r) q
+    ∙ sym (append-assoc (joined event-bytes es) (event-bytes e) more)
+    ∙ ap (λ (r : List ℕ). r ++ more) (joined-more event-bytes [] es e)
+
+-- nothing is left
+pub events-all : (b : List ℕ) (es : List Call) (rest : List ℕ) → b ≡ joined event-bytes es ++ rest → length rest ≡ 0 → b ≡ joined event-bytes es
+events-all b es rest p z = p ∙ ap (λ (r : List ℕ). joined event-bytes es ++ r) (nil-from-length rest z) ∙ append-nil (joined event-bytes es)
+
+pub fit-more : (es : List Call) (e : Call) → Events-fit es → Event-fits e → Events-fit (es ++ e ∷ [])
+fit-more [] e h f = (f, tt)
+fit-more (x ∷ es) e h f = (h .0, fit-more es e (h .1) f)

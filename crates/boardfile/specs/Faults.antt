@@ -1,0 +1,110 @@
+-- The first fault of a board file, and its place.
+-- Check: a test, the fault where it fails, and the tests after it.
+-- Settings-faulty, Events-faulty: the tests of each section, in their order; File-faulty: those of the whole file.
+-- Parts-faulty: the writer's tests of its parts.
+-- Read-refused, Write-refused: what reader and writer answer where they fail.
+use Prim.Native.Nat.{ℕ, _+_, _-_, _*_, _/_, _<_, _≤_}
+use mathlib.Core.Path.{_≡_}
+use mathlib.Core.Logic.{_⊎_}
+use mathlib.Core.List.{List, _++_}
+use lib.ListN.{length, getD, take, drop}
+use Rattle.std.specs.Joined.{joined}
+use Rattle.calls.specs.declared.call.Call.{Call}
+use Rattle.calls.specs.declared.call.Call.the-variants.{Run}
+use Rattle.boardfile.specs.declared.parts.Settings.{Settings}
+use Rattle.boardfile.specs.declared.fault.FaultKind.{FaultKind}
+use Rattle.boardfile.specs.declared.fault.FaultKind.the-variants.{Clients, Places, Tasks, Missing, Count, Unfit, Trailing}
+use Rattle.boardfile.specs.declared.fault.Fault.{Fault}
+use Rattle.boardfile.specs.declared.fault.ReadError.{ReadError}
+use Rattle.boardfile.specs.declared.fault.ReadError.the-variants as read
+use Rattle.boardfile.specs.declared.fault.WriteError.{WriteError}
+use Rattle.boardfile.specs.declared.fault.WriteError.the-variants as write
+use Rattle.boardfile.specs.Layout.{settings-bytes, event-bytes, file-bytes}
+use Rattle.boardfile.specs.Fits.{Clients-fit, Places-fit, Tasks-fit, Event-fits, Events-fit, File-fits}
+
+-- f is a fault of this test, or else of a later one
+abbrev pub Check : Type 0 → (Fault → Type 0) → (Fault → Type 0) → Fault → Type 0
+Check passes fails later f = ((passes → ⊥) × fails f) ⊎ (passes × later f)
+
+-- no test is left to fail
+abbrev pub No-fault : Fault → Type 0
+No-fault f = ⊥
+
+-- the fault of this kind, at this section and record
+abbrev pub At : FaultKind → ℕ → ℕ → Fault → Type 0
+At kind section index f = f ≡ record { kind = kind; place = (section, index) }
+
+-- a section's count
+abbrev pub count-of : List ℕ → ℕ
+count-of b = getD b 0 0 * 256 + getD b 1 0
+
+-- settings with this property stand behind the count
+abbrev pub Has-settings : List ℕ → (Settings → Type 0) → Type 0
+Has-settings b P = (s : Settings) × (t : List ℕ) × (drop 2 b ≡ settings-bytes s ++ t) × P s
+
+-- so many events that fit stand behind the count, and then the bytes t
+abbrev pub Has-events : List ℕ → ℕ → List ℕ → Type 0
+Has-events b n t = (es : List Call) × (length es ≡ n) × Events-fit es × (drop 2 b ≡ joined event-bytes es ++ t)
+
+-- no event that fits stands at the start of the bytes
+abbrev pub No-event : List ℕ → Type 0
+No-event t = (e : Call) (u : List ℕ) → Event-fits e → t ≡ event-bytes e ++ u → ⊥
+
+-- the first record that does not fit
+abbrev pub First-unfit : List ℕ → Fault → Type 0
+First-unfit b f = (i : ℕ) × (t : List ℕ) × Has-events b i t × No-event t × At Unfit 2 i f
+
+-- the tests of the settings themselves, which the writer makes too
+abbrev pub Settings-checks : Settings → (Fault → Type 0) → Fault → Type 0
+Settings-checks s later =
+    Check (Clients-fit s) (At Clients 1 0)
+    (Check (Places-fit s) (At Places 1 0)
+    (Check (Tasks-fit s) (At Tasks 1 0)
+    later))
+
+-- the bytes of a file from its first section on
+abbrev pub Settings-faulty : List ℕ → (Fault → Type 0) → Fault → Type 0
+Settings-faulty b later =
+    Check (2 ≤ length b) (At Missing 1 0)
+    (Check (count-of b ≡ 1) (At Count 1 0)
+    (Check (10 ≤ length b) (At Missing 1 0)
+    (Check (Has-settings b (λ s. Unit {0})) (At Unfit 1 0)
+    (λ f. Has-settings b (λ s. Settings-checks s later f)))))
+
+-- the bytes of a file from its second section on
+abbrev pub Events-faulty : List ℕ → Fault → Type 0
+Events-faulty b =
+    Check (2 ≤ length b) (At Missing 2 0)
+    (Check (count-of b ≤ 4096) (At Count 2 0)
+    (Check (2 + 6 * count-of b ≤ length b) (At Missing 2 ((length b - 2) / 6))
+    (Check ((t : List ℕ) × Has-events b (count-of b) t) (First-unfit b)
+    (Check (length b ≡ 2 + 6 * count-of b) (At Trailing 2 (count-of b))
+    No-fault))))
+
+-- what the reader of the events answers where it fails
+abbrev pub Events-refused : List ℕ → ReadError → Type 0
+Events-refused b (read.Faulty f) = Events-faulty b f
+Events-refused b read.NoMemory = Unit {0}
+
+abbrev pub File-faulty : List ℕ → Fault → Type 0
+File-faulty b = Settings-faulty b (Events-faulty (drop 10 b))
+
+abbrev pub Read-refused : List ℕ → ReadError → Type 0
+Read-refused b (read.Faulty f) = File-faulty b f
+Read-refused b read.NoMemory = Unit {0}
+
+-- the first event that does not fit
+abbrev pub First-unfit-event : List Call → Fault → Type 0
+First-unfit-event es f = (i : ℕ) × (i < length es) × Events-fit (take i es) × (Event-fits (getD es i Run) → ⊥) × At Unfit 2 i f
+
+abbrev pub Parts-faulty : Settings → List Call → Fault → Type 0
+Parts-faulty s es =
+    Settings-checks s
+    (Check (length es ≤ 4096) (At Count 2 0)
+    (Check (Events-fit es) (First-unfit-event es)
+    No-fault))
+
+-- what the writer answers where it fails, with room for so many bytes
+abbrev pub Write-refused : Settings → List Call → ℕ → WriteError → Type 0
+Write-refused s es room (write.Faulty f) = Parts-faulty s es f
+Write-refused s es room write.TooSmall = File-fits s es × (room < length (file-bytes s es))

@@ -1,0 +1,103 @@
+// The writer of a board file.
+ghost use mathlib.Core.Path.{_≡_};
+ghost use mathlib.Core.List.{List, [], _∷_, _++_};
+ghost use Prim.Native.Nat.{ℕ, _+_, _*_, _≤_};
+ghost use lib.ListN.{length, drop};
+ghost use Rattle.std.specs.Joined.{joined};
+ghost use Rattle.std.specs.Orderings.{Decides};
+ghost use Rattle.std.specs.Results.{Cases};
+ghost use Rattle.std.specs.Of.Vec.{vec-items};
+ghost use Rattle.boardfile.specs.Layout.{event-bytes, events-bytes, settings-bytes};
+ghost use Rattle.boardfile.specs.Fits.{Event-fits, File-fits};
+ghost use Rattle.boardfile.specs.Faults.{Parts-faulty};
+ghost use Rattle.boardfile.specs.Writes.{Writes};
+use crate::event;
+use crate::fault::Fault;
+use crate::fault::FaultKind;
+use crate::fault::WriteError;
+use crate::fault::WriteErrorFromFault;
+use crate::parts::BoardFile;
+use crate::parts::Settings;
+use crate::settings;
+use calls::call::Call;
+
+// Writes an event's record at the start of the buffer.
+fn put_event(event: Call, buf: &mut [u8])
+    requires { ⌜ 6 ≤ length (now buf) ⌝ }
+    ensures { λ _. ⌜ now (buf .exit) ≡ event-bytes event ++ drop 6 (now (buf .entry)) ⌝ }
+{
+    let record = event::encode(event);
+    buf[0..6].copy_from_slice(&record);
+}
+
+// Writes the records of the events, one after another.
+fn put_records(events: &[Call], buf: &mut [u8])
+    requires { ⌜ 6 * length (now events) ≤ length (now buf) ⌝ }
+    ensures { λ _. ⌜ now (buf .exit) ≡ joined event-bytes (now (events .entry)) ++ drop (6 * length (now (events .entry))) (now (buf .entry)) ⌝ }
+{
+    for (index, event) in events.iter().enumerate() {
+        put_event(*event, &mut buf[6 * index..]);
+    }
+}
+
+// Writes the events section at the start of the buffer.
+fn put_events(events: &[Call], buf: &mut [u8])
+    requires count { ⌜ length (now events) ≤ 4096 ⌝ }
+    requires room { ⌜ 2 + 6 * length (now events) ≤ length (now buf) ⌝ }
+    ensures { λ _. ⌜ now (buf .exit) ≡ events-bytes (now (events .entry)) ++ drop (2 + 6 * length (now (events .entry))) (now (buf .entry)) ⌝ }
+{
+    let [high, low] = (events.len() as u16).to_be_bytes();
+    buf[0] = high;
+    buf[1] = low;
+    put_records(events, &mut buf[2..]);
+}
+
+// Writes the settings section at the start of the buffer.
+fn put_settings(settings: Settings, buf: &mut [u8])
+    requires { ⌜ 10 ≤ length (now buf) ⌝ }
+    ensures { λ _. ⌜ now (buf .exit) ≡ 0 ∷ 1 ∷ (settings-bytes settings ++ drop 10 (now (buf .entry))) ⌝ }
+{
+    let record = settings::encode(settings);
+    buf[0] = 0;
+    buf[1] = 1;
+    buf[2..10].copy_from_slice(&record);
+}
+
+fn fits(event: Call) -> bool
+    ensures { λ r. ⌜ Decides r (Event-fits event) ⌝ }
+{
+    match event {
+        Call::Done { mark, .. } => mark <= 1,
+        _ => true,
+    }
+}
+
+// The reader's tests of the parts.
+fn check(file: &BoardFile) -> Result<(), Fault>
+    ensures { λ r. ⌜ Cases r (λ _. File-fits (now (file .entry) .settings) (vec-items (now (file .entry) .events))) (Parts-faulty (now (file .entry) .settings) (vec-items (now (file .entry) .events))) ⌝ }
+{
+    settings::check(file.settings)?;
+    if file.events.len() > 4096 {
+        return Err(Fault { kind: FaultKind::Count, place: (2, 0) });
+    }
+    for (index, event) in file.events.iter().enumerate() {
+        if !fits(*event) {
+            return Err(Fault { kind: FaultKind::Unfit, place: (2, index as u16) });
+        }
+    }
+    Ok(())
+}
+
+// Writes the file at the start of the buffer, and answers its length.
+pub fn write(file: &BoardFile, buf: &mut [u8]) -> Result<usize, WriteError>
+    ensures { λ r. ⌜ Writes (now (file .entry) .settings) (vec-items (now (file .entry) .events)) (now (buf .entry)) (now (buf .exit)) r ⌝ }
+{
+    check(file)?;
+    let len = 12 + 6 * file.events.len();
+    if buf.len() < len {
+        return Err(WriteError::TooSmall);
+    }
+    put_settings(file.settings, buf);
+    put_events(file.events.as_slice(), &mut buf[10..]);
+    Ok(len)
+}
