@@ -1,15 +1,15 @@
 -- A count, and a run of records, one after another. Assumes nothing.
-use Prim.Native.Nat.{ℕ, _+_, _*_, _≤_, _<_}
+use Prim.Native.Nat.{ℕ, zero, suc, _+_, _*_, _≤_, _<_}
 use mathlib.Core.Path.{_≡_, ap, sym, _∙_}
 use mathlib.Core.List.{List, [], _∷_, _++_}
 use native.Mathlib.Omega.{arith}
-use lib.ListN.{length, drop, getD}
+use lib.ListN.{length, take, drop, getD}
 use Rattle.std.specs.Joined.{joined}
-use Rattle.std.proofs.shelf.Lists.{append-nil, append-assoc, joined-more, nil-from-length}
+use Rattle.std.proofs.shelf.Lists.{append-nil, append-assoc, joined-more, nil-from-length, take-more}
 use Rattle.calls.specs.declared.call.Call.{Call}
 use Rattle.boardfile.specs.Layout.{high, low, event-bytes}
 use Rattle.boardfile.specs.Fits.{Event-fits, Events-fit}
-use Rattle.boardfile.specs.Faults.{count-of}
+use Rattle.boardfile.specs.Faults.{count-of, Unfit-at}
 
 -- bytes that begin with the count n, and go on as x
 pub after-count : (b x : List ℕ) (n : ℕ) → 2 ≤ length b → getD b 1 0 < 256 → count-of b ≡ n → drop 2 b ≡ x → b ≡ high n ∷ low n ∷ x
@@ -34,3 +34,23 @@ events-all b es rest p z = p ∙ ap (λ (r : List ℕ). joined event-bytes es ++
 pub fit-more : (es : List Call) (e : Call) → Events-fit es → Event-fits e → Events-fit (es ++ e ∷ [])
 fit-more [] e h f = (f, tt)
 fit-more (x ∷ es) e h f = (h .0, fit-more es e (h .1) f)
+
+fit-last : (es : List Call) (e : Call) → Events-fit (es ++ e ∷ []) → Event-fits e
+fit-last [] e h = h .0
+fit-last (x ∷ es) e h = fit-last es e (h .1)
+
+-- the first i events fit, and the one at i does
+pub fit-next : (es : List Call) (i : ℕ) (d : Call) → i < length es → Events-fit (take i es) → Event-fits (getD es i d) → Events-fit (take (i + 1) es)
+fit-next es i d l h f = rw (take-more es i d l) (fit-more (take i es) (getD es i d) h f)
+
+pub fit-at : (es : List Call) (i : ℕ) (d : Call) → i < length es → Events-fit (take (i + 1) es) → Event-fits (getD es i d)
+fit-at es i d l h = fit-last (take i es) (getD es i d) (rw (take-more es i d l) at h)
+
+-- a front of events that fit fits
+fit-front : (es : List Call) (n : ℕ) → Events-fit es → Events-fit (take n es)
+fit-front es zero h = tt
+fit-front [] (suc n) h = tt
+fit-front (e ∷ es) (suc n) h = (h .0, fit-front es n (h .1))
+
+pub not-all-fit : (es : List Call) (i : ℕ) → Unfit-at es i → Events-fit es → ⊥
+not-all-fit es i u h = u .2 (fit-front es (i + 1) h)

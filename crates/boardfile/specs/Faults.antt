@@ -10,7 +10,6 @@ use mathlib.Core.List.{List, _++_}
 use lib.ListN.{length, getD, take, drop}
 use Rattle.std.specs.Joined.{joined}
 use Rattle.calls.specs.declared.call.Call.{Call}
-use Rattle.calls.specs.declared.call.Call.the-variants.{Run}
 use Rattle.boardfile.specs.declared.parts.Settings.{Settings}
 use Rattle.boardfile.specs.declared.fault.FaultKind.{FaultKind}
 use Rattle.boardfile.specs.declared.fault.FaultKind.the-variants.{Clients, Places, Tasks, Missing, Count, Unfit, Trailing}
@@ -93,15 +92,15 @@ abbrev pub Read-refused : List ℕ → ReadError → Type 0
 Read-refused b (read.Faulty f) = File-faulty b f
 Read-refused b read.NoMemory = Unit {0}
 
--- the first event that does not fit
-abbrev pub First-unfit-event : List Call → Fault → Type 0
-First-unfit-event es f = (i : ℕ) × (i < length es) × Events-fit (take i es) × (Event-fits (getD es i Run) → ⊥) × At Unfit 2 i f
+-- the event at i is the first that does not fit
+abbrev pub Unfit-at : List Call → ℕ → Type 0
+Unfit-at es i = (i < length es) × Events-fit (take i es) × (Events-fit (take (i + 1) es) → ⊥)
 
 abbrev pub Parts-faulty : Settings → List Call → Fault → Type 0
 Parts-faulty s es =
     Settings-checks s
     (Check (length es ≤ 4096) (At Count 2 0)
-    (Check (Events-fit es) (First-unfit-event es)
+    (Check (Events-fit es) (λ f. (i : ℕ) × Unfit-at es i × At Unfit 2 i f)
     No-fault))
 
 -- what the writer answers where it fails, with room for so many bytes

@@ -4,12 +4,13 @@ ghost use mathlib.Core.List.{List, [], _∷_, _++_};
 ghost use Prim.Native.Nat.{ℕ, _+_, _*_, _≤_};
 ghost use lib.ListN.{length, drop};
 ghost use Rattle.std.specs.Joined.{joined};
+ghost use Rattle.std.specs.Options.{Cases as BySome};
 ghost use Rattle.std.specs.Orderings.{Decides};
 ghost use Rattle.std.specs.Results.{Cases};
 ghost use Rattle.std.specs.Of.Vec.{vec-items};
 ghost use Rattle.boardfile.specs.Layout.{event-bytes, events-bytes, settings-bytes};
-ghost use Rattle.boardfile.specs.Fits.{Event-fits, File-fits};
-ghost use Rattle.boardfile.specs.Faults.{Parts-faulty};
+ghost use Rattle.boardfile.specs.Fits.{Event-fits, Events-fit, File-fits};
+ghost use Rattle.boardfile.specs.Faults.{Parts-faulty, Unfit-at};
 ghost use Rattle.boardfile.specs.Writes.{Writes};
 use crate::event;
 use crate::fault::Fault;
@@ -72,6 +73,18 @@ fn fits(event: Call) -> bool
     }
 }
 
+// The index of the first event that does not fit.
+fn first_unfit(events: &[Call]) -> Option<usize>
+    ensures { λ r. ⌜ BySome r (Events-fit (now (events .entry))) (Unfit-at (now (events .entry))) ⌝ }
+{
+    for (index, event) in events.iter().enumerate() {
+        if !fits(*event) {
+            return Some(index);
+        }
+    }
+    None
+}
+
 // The reader's tests of the parts.
 fn check(file: &BoardFile) -> Result<(), Fault>
     ensures { λ r. ⌜ Cases r (λ _. File-fits (now (file .entry) .settings) (vec-items (now (file .entry) .events))) (Parts-faulty (now (file .entry) .settings) (vec-items (now (file .entry) .events))) ⌝ }
@@ -80,12 +93,10 @@ fn check(file: &BoardFile) -> Result<(), Fault>
     if file.events.len() > 4096 {
         return Err(Fault { kind: FaultKind::Count, place: (2, 0) });
     }
-    for (index, event) in file.events.iter().enumerate() {
-        if !fits(*event) {
-            return Err(Fault { kind: FaultKind::Unfit, place: (2, index as u16) });
-        }
+    match first_unfit(file.events.as_slice()) {
+        Some(index) => Err(Fault { kind: FaultKind::Unfit, place: (2, index as u16) }),
+        None => Ok(()),
     }
-    Ok(())
 }
 
 // Writes the file at the start of the buffer, and answers its length.
