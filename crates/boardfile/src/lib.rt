@@ -1,4 +1,5 @@
 // The board file: its parts, its reader and its writer.
+pub mod copy;
 mod event;
 mod events;
 pub mod fault;

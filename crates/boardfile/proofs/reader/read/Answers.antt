@@ -1,5 +1,5 @@
 use Prim.Native.Nat.{ℕ}
-use mathlib.Core.Path.{_≡_, ap, _∙_}
+use mathlib.Core.Path.{_≡_, ap, sym, _∙_}
 use mathlib.Core.List.{List, _∷_, _++_}
 use lib.ListN.{drop}
 use Rattle.std.specs.Of.Vec.{vec-items}
@@ -16,7 +16,7 @@ returns-in-Break-settings c =
     let b = c .args .bytes .now in
     let p = err-from-errBy (c .from-residual .result) (c .from-residual .ensures .1) in
     let x : Read-refused b (Faulty (c .in-Break-settings .field-0 .0)) = settings-fault b (Events-faulty (drop 10 b)) _ (c .in-Break-settings .ensures tt) in
-    rw (p .1, p .2) (record { answer = x; only = only-memory b _ x; first = that-fault b _ x })
+    rw (p .1, p .2) (record { answer = x; only = only-memory b _ x; distinct = tt; first = that-fault b _ x })
 
 pub returns-in-Break-events : need.returns-in-Break-events
 returns-in-Break-events c =
@@ -24,7 +24,7 @@ returns-in-Break-events c =
     let p = err-from-errBy (c .from-residual-in-Break-events .result) (c .from-residual-in-Break-events .ensures .1) in
     let q = c .in-Continue-settings .ensures tt in
     let x : Read-refused b (c .in-Break-events .field-0 .0) = events-refusal b _ _ _ (q .0) (q .1) (c .in-Break-events .ensures tt) in
-    rw (p .1, p .2) (record { answer = x; only = only-memory b _ x; first = that-fault b _ x })
+    rw (p .1, p .2) (record { answer = x; only = only-memory b _ x; distinct = tt; first = that-fault b _ x })
 
 pub returns : need.returns
 returns c =
@@ -34,4 +34,4 @@ returns c =
     let p = c .in-Continue-settings .ensures tt in
     let q = c .in-Continue-events .ensures tt in
     let x : Reads b s es = (p .0 ∙ ap (λ (t : List ℕ). 0 ∷ 1 ∷ (settings-bytes s ++ t)) (q .0), (p .1, q .1, q .2)) in
-    record { answer = x; only = λ s′ es′. only-parts b s s′ es es′ x; first = no-fault b s es x }
+    record { answer = x; only = λ s′ es′. only-parts b s s′ es es′ x; distinct = λ other y. y .0 ∙ sym (x .0); first = no-fault b s es x }

@@ -24,4 +24,4 @@ returns c =
     let n : c .len .result ≡ length es = search needs in
     let q = rw (c .as-slice .ensures .value) at (c .put-events .ensures) in
     let p = file-put s es old (c .put-settings .last .buf) (c .put-events .last .buf) (c .put-settings .ensures) q in
-    (c .in-Continue-check .ensures tt, omega arith, p ∙ ap (λ (k : ℕ). file-bytes s es ++ drop (12 + 6 * k) old) (sym n))
+    (c .in-Continue-check .ensures tt, omega arith, search needs, p ∙ ap (λ (k : ℕ). file-bytes s es ++ drop (12 + 6 * k) old) (sym n))
