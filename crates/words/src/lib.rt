@@ -1,0 +1,5 @@
+// Board files in words.
+pub mod call;
+pub mod fault;
+pub mod listing;
+pub mod settings;
