@@ -47,7 +47,7 @@ pub fit-at : (es : List Call) (i : ℕ) (d : Call) → i < length es → Events-
 fit-at es i d l h = fit-last (take i es) (getD es i d) (rw (take-more es i d l) at h)
 
 -- a front of events that fit fits
-fit-front : (es : List Call) (n : ℕ) → Events-fit es → Events-fit (take n es)
+pub fit-front : (es : List Call) (n : ℕ) → Events-fit es → Events-fit (take n es)
 fit-front es zero h = tt
 fit-front [] (suc n) h = tt
 fit-front (e ∷ es) (suc n) h = (h .0, fit-front es n (h .1))
