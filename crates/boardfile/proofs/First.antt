@@ -60,7 +60,7 @@ one-settings : (b : List ℕ) (later : Fault → Type 0) → One later → One (
 one-settings b later h =
     one-check _ _ _ (one-at _ _ _) (one-check _ _ _ (one-at _ _ _) (one-check _ _ _ (one-at _ _ _) (one-check _ _ _ (one-at _ _ _)
     (λ f g x y. one-settings-checks (x .0) later h f g (x .3)
-      (subst (λ (s : Settings). Settings-checks s later g) (same-settings (y .0) (x .0) (y .1) (x .1) (sym (y .2) ∙ x .2) .0) (y .3))))))
+    (subst (λ (s : Settings). Settings-checks s later g) (same-settings (y .0) (x .0) (y .1) (x .1) (sym (y .2) ∙ x .2) .0) (y .3))))))
 
 clean-settings-checks : (s : Settings) (later : Fault → Type 0) → Settings-fit s → Clean later → Clean (Settings-checks s later)
 clean-settings-checks s later h c = clean-check _ _ _ (h .0) (clean-check _ _ _ (h .1) (clean-check _ _ _ (h .2) c))
@@ -81,13 +81,13 @@ clean-settings s t later h c =
 -- a fault of the settings is one of the file
 pub settings-fault : (b : List ℕ) (later : Fault → Type 0) (f : Fault) → Settings-faulty b No-fault f → Settings-faulty b later f
 settings-fault b later f (inl a) = inl a
-settings-fault b later f (inr (p , inl a)) = inr (p, inl a)
-settings-fault b later f (inr (p , inr (q , inl a))) = inr (p, inr (q, inl a))
-settings-fault b later f (inr (p , inr (q , inr (r , inl a)))) = inr (p, inr (q, inr (r, inl a)))
-settings-fault b later f (inr (p , inr (q , inr (r , inr (u , (s , t , e , inl a)))))) = inr (p, inr (q, inr (r, inr (u, (s, t, e, inl a)))))
-settings-fault b later f (inr (p , inr (q , inr (r , inr (u , (s , t , e , inr (v , inl a))))))) = inr (p, inr (q, inr (r, inr (u, (s, t, e, inr (v, inl a))))))
-settings-fault b later f (inr (p , inr (q , inr (r , inr (u , (s , t , e , inr (v , inr (w , inl a)))))))) = inr (p, inr (q, inr (r, inr (u, (s, t, e, inr (v, inr (w, inl a)))))))
-settings-fault b later f (inr (p , inr (q , inr (r , inr (u , (s , t , e , inr (v , inr (w , inr (x , a))))))))) = absurd a
+settings-fault b later f (inr (p, inl a)) = inr (p, inl a)
+settings-fault b later f (inr (p, inr (q, inl a))) = inr (p, inr (q, inl a))
+settings-fault b later f (inr (p, inr (q, inr (r, inl a)))) = inr (p, inr (q, inr (r, inl a)))
+settings-fault b later f (inr (p, inr (q, inr (r, inr (u, (s, t, e, inl a)))))) = inr (p, inr (q, inr (r, inr (u, (s, t, e, inl a)))))
+settings-fault b later f (inr (p, inr (q, inr (r, inr (u, (s, t, e, inr (v, inl a))))))) = inr (p, inr (q, inr (r, inr (u, (s, t, e, inr (v, inl a))))))
+settings-fault b later f (inr (p, inr (q, inr (r, inr (u, (s, t, e, inr (v, inr (w, inl a)))))))) = inr (p, inr (q, inr (r, inr (u, (s, t, e, inr (v, inr (w, inl a)))))))
+settings-fault b later f (inr (p, inr (q, inr (r, inr (u, (s, t, e, inr (v, inr (w, inr (x, a))))))))) = absurd a
 
 -- a fault behind settings that fit is one of the file
 pub later-fault : (b : List ℕ) (s : Settings) (t : List ℕ) (later : Fault → Type 0) (f : Fault) → b ≡ 0 ∷ 1 ∷ (settings-bytes s ++ t) → Settings-fit s → later f → Settings-faulty b later f
@@ -102,11 +102,11 @@ second-section b s t e = ap (λ (x : List ℕ). drop 10 x) e ∙ drop-at (settin
 -- ---- the second section
 
 one-unfit : (b : List ℕ) → One (First-unfit b)
-one-unfit b f g (i , t , has , none , e) (j , u , has′ , none′ , e′) =
-    elim (cases-order i j)
-    [ inl p ↦ e ∙ ap (λ (k : ℕ). record { kind = Unfit; place = (2, k) }) p ∙ sym e′
-    | inr (inl l) ↦ absurd (none-past b u t j i has′ has none l)
-    | inr (inr l) ↦ absurd (none-past b t u i j has has′ none′ l)
+one-unfit b f g (i, t, has, none, e) (j, u, has′, none′, e′) =
+    elim (cases-order i j) [
+      | inl p ↦ e ∙ ap (λ (k : ℕ). record { kind = Unfit; place = (2, k) }) p ∙ sym e′
+      | inr (inl l) ↦ absurd (none-past b u t j i has′ has none l)
+      | inr (inr l) ↦ absurd (none-past b t u i j has has′ none′ l)
     ]
 
 one-events : (b : List ℕ) → One (Events-faulty b)

@@ -42,11 +42,11 @@ same-count u z h = rw (getD-append-left u z 0 0 (omega arith), getD-append-left 
 -- ---- the first section
 
 settings-forth : (u z : List ℕ) (P : Settings → Type 0) → 2 ≤ length u → Has-settings u P → Has-settings (u ++ z) P
-settings-forth u z P h (s , t , e , p) =
+settings-forth u z P h (s, t, e, p) =
     (s, t ++ z, behind u z h ∙ ap (λ (l : List ℕ). l ++ z) e ∙ append-assoc (settings-bytes s) t z, p)
 
 settings-back : (u z : List ℕ) (P : Settings → Type 0) → 10 ≤ length u → Has-settings (u ++ z) P → Has-settings u P
-settings-back u z P h (s , t , e , p) =
+settings-back u z P h (s, t, e, p) =
     let l = settings-length s in
     let d = length-drop 2 u in
     let q = prefix (drop 2 u) z (settings-bytes s) t (sym (behind u z (omega arith)) ∙ e) (omega arith) in
@@ -54,20 +54,20 @@ settings-back u z P h (s , t , e , p) =
 
 checks-map : (s : Settings) (later later′ : Fault → Type 0) (f : Fault) → (later f → later′ f) → Settings-checks s later f → Settings-checks s later′ f
 checks-map s later later′ f m (inl a) = inl a
-checks-map s later later′ f m (inr (p , inl a)) = inr (p, inl a)
-checks-map s later later′ f m (inr (p , inr (q , inl a))) = inr (p, inr (q, inl a))
-checks-map s later later′ f m (inr (p , inr (q , inr (r , a)))) = inr (p, inr (q, inr (r, m a)))
+checks-map s later later′ f m (inr (p, inl a)) = inr (p, inl a)
+checks-map s later later′ f m (inr (p, inr (q, inl a))) = inr (p, inr (q, inl a))
+checks-map s later later′ f m (inr (p, inr (q, inr (r, a)))) = inr (p, inr (q, inr (r, m a)))
 
 settings-longer : (u z : List ℕ) (later later′ : Fault → Type 0) (f : Fault) → 10 ≤ length u → (later f → later′ f) → Settings-faulty u later f → Settings-faulty (u ++ z) later′ f
 settings-longer u z later later′ f h m (inl a) = absurd (a .0 (omega arith))
-settings-longer u z later later′ f h m (inr (p , inl a)) =
+settings-longer u z later later′ f h m (inr (p, inl a)) =
     let l = length-append u z in
     inr (omega arith, inl (λ q. a .0 (sym (same-count u z p) ∙ q), a .1))
-settings-longer u z later later′ f h m (inr (p , inr (q , inl a))) = absurd (a .0 h)
-settings-longer u z later later′ f h m (inr (p , inr (q , inr (r , inl a)))) =
+settings-longer u z later later′ f h m (inr (p, inr (q, inl a))) = absurd (a .0 h)
+settings-longer u z later later′ f h m (inr (p, inr (q, inr (r, inl a)))) =
     let l = length-append u z in
     inr (omega arith, inr (same-count u z p ∙ q, inr (omega arith, inl (λ x. a .0 (settings-back u z _ r x), a .1))))
-settings-longer u z later later′ f h m (inr (p , inr (q , inr (r , inr (some , (s , t , e , a)))))) =
+settings-longer u z later later′ f h m (inr (p, inr (q, inr (r, inr (some, (s, t, e, a)))))) =
     let l = length-append u z in
     inr (omega arith, inr (same-count u z p ∙ q, inr (omega arith, inr (settings-forth u z _ p some, settings-forth u z _ p (s, t, e, checks-map s later later′ f m a)))))
 
@@ -79,19 +79,24 @@ joined-append (x ∷ xs) ys = ap (λ (l : List ℕ). event-bytes x ++ l) (joined
 
 -- where i events stand, fewer do
 fewer : (u t : List ℕ) (n i : ℕ) → n ≤ i → Has-events u i t → (t′ : List ℕ) × Has-events u n t′
-fewer u t n i l (es , k , fit , e) =
-    (joined event-bytes (drop n es) ++ t
-    , (take n es, length-take-le n es (omega arith), fit-front es n fit
-      , e ∙ ap (λ (xs : List Call). joined event-bytes xs ++ t) (sym (take-append-drop n es))
+fewer u t n i l (es, k, fit, e) = (
+  joined event-bytes (drop n es) ++ t,
+  (
+    take n es,
+    length-take-le n es (omega arith),
+    fit-front es n fit,
+    e ∙ ap (λ (xs : List Call). joined event-bytes xs ++ t) (sym (take-append-drop n es))
         ∙ ap (λ (l : List ℕ). l ++ t) (joined-append (take n es) (drop n es))
-        ∙ append-assoc (joined event-bytes (take n es)) (joined event-bytes (drop n es)) t))
+        ∙ append-assoc (joined event-bytes (take n es)) (joined event-bytes (drop n es)) t,
+  ),
+)
 
 events-forth : (u z t : List ℕ) (n : ℕ) → 2 ≤ length u → Has-events u n t → Has-events (u ++ z) n (t ++ z)
-events-forth u z t n h (es , k , fit , e) =
+events-forth u z t n h (es, k, fit, e) =
     (es, k, fit, behind u z h ∙ ap (λ (l : List ℕ). l ++ z) e ∙ append-assoc (joined event-bytes es) t z)
 
 events-back : (u z t : List ℕ) (n : ℕ) → 2 + 6 * n ≤ length u → Has-events (u ++ z) n t → (t′ : List ℕ) × Has-events u n t′
-events-back u z t n h (es , k , fit , e) =
+events-back u z t n h (es, k, fit, e) =
     let l = events-length es in
     let d = length-drop 2 u in
     let q = prefix (drop 2 u) z (joined event-bytes es) t (sym (behind u z (omega arith)) ∙ e) (omega arith) in
@@ -105,34 +110,44 @@ no-event-longer t z h none e v fit p =
     none e (q .0) fit (q .1)
 
 unfit-longer : (u z : List ℕ) (n : ℕ) (f : Fault) → 2 + 6 * n ≤ length u → ((t : List ℕ) × Has-events u n t → ⊥) → First-unfit u f → First-unfit (u ++ z) f
-unfit-longer u z n f h not (i , t , has , none , e) =
-    elim (cases-lt i n)
-    [ inr more ↦ absurd (not (fewer u t n i more has))
-    | inl l ↦
-      let a = events-length (has .0) in
-      let b = has .1 in
-      let c = ap length (has .3) ∙ length-append (joined event-bytes (has .0)) t in
-      let d = length-drop 2 u in
-      (i, t ++ z, events-forth u z t i (omega arith) has, no-event-longer t z (omega arith) none, e)
+unfit-longer u z n f h not (i, t, has, none, e) =
+    elim (cases-lt i n) [
+      | inr more ↦ absurd (not (fewer u t n i more has))
+      | inl l ↦
+          let a = events-length (has .0) in
+          let b = has .1 in
+          let c = ap length (has .3) ∙ length-append (joined event-bytes (has .0)) t in
+          let d = length-drop 2 u in
+          (i, t ++ z, events-forth u z t i (omega arith) has, no-event-longer t z (omega arith) none, e)
     ]
 
 events-longer : (u z : List ℕ) (f : Fault) → 24578 < length u → Events-faulty u f → Events-faulty (u ++ z) f
 events-longer u z f h (inl a) = absurd (a .0 (omega arith))
-events-longer u z f h (inr (p , inl a)) =
+events-longer u z f h (inr (p, inl a)) =
     let l = length-append u z in
     inr (omega arith, inl (λ q. a .0 (subst (λ (n : ℕ). n ≤ 4096) (same-count u z p) q), a .1))
-events-longer u z f h (inr (p , inr (q , inl a))) = absurd (a .0 (omega arith))
-events-longer u z f h (inr (p , inr (q , inr (r , inl a)))) =
+events-longer u z f h (inr (p, inr (q, inl a))) = absurd (a .0 (omega arith))
+events-longer u z f h (inr (p, inr (q, inr (r, inl a)))) =
     let l = length-append u z in
     let n = same-count u z p in
     inr (omega arith, inr (omega arith, inr (omega arith, inl (λ x. a .0 (events-back u z (x .0) (count-of u) r (subst (λ (k : ℕ). Has-events (u ++ z) k (x .0)) n (x .1))), unfit-longer u z (count-of u) f r (a .0) (a .1)))))
-events-longer u z f h (inr (p , inr (q , inr (r , inr (all , inl a))))) =
+events-longer u z f h (inr (p, inr (q, inr (r, inr (all, inl a))))) =
     let l = length-append u z in
     let n = same-count u z p in
-    inr (omega arith, inr (omega arith, inr (omega arith, inr
-    ((all .0 ++ z, subst (λ (k : ℕ). Has-events (u ++ z) k (all .0 ++ z)) (sym n) (events-forth u z (all .0) (count-of u) p (all .1)))
-    , inl (λ e. omega arith, a .1 ∙ ap (λ (k : ℕ). record { kind = Trailing; place = (2, k) }) (sym n))))))
-events-longer u z f h (inr (p , inr (q , inr (r , inr (all , inr (e , a)))))) = absurd a
+    inr (
+      omega arith,
+      inr (
+        omega arith,
+        inr (
+          omega arith,
+          inr (
+            (all .0 ++ z, subst (λ (k : ℕ). Has-events (u ++ z) k (all .0 ++ z)) (sym n) (events-forth u z (all .0) (count-of u) p (all .1))),
+            inl (λ e. omega arith, a .1 ∙ ap (λ (k : ℕ). record { kind = Trailing; place = (2, k) }) (sym n)),
+          ),
+        ),
+      ),
+    )
+events-longer u z f h (inr (p, inr (q, inr (r, inr (all, inr (e, a)))))) = absurd a
 
 -- ---- the file
 
@@ -145,22 +160,22 @@ file-longer u z f h =
 -- an input of which so much was taken is all there, or the part is longer than any file
 halves : (limit : ℕ) (input : List ℕ) → 24588 < limit → (take limit input ≡ input) ⊎ (24588 < length (take limit input))
 halves limit input h =
-    elim (cases-lt (length input) limit)
-    [ inl l ↦ inl (take-all limit input (omega arith))
-    | inr l ↦ inr (omega (arith, length-take-le limit input l))
+    elim (cases-lt (length input) limit) [
+      | inl l ↦ inl (take-all limit input (omega arith))
+      | inr l ↦ inr (omega (arith, length-take-le limit input l))
     ]
 
 pub input-reads : (limit : ℕ) (input : List ℕ) (s : Settings) (es : List Call) → 24588 < limit → Reads (take limit input) s es → Reads input s es
 input-reads limit input s es h r =
-    elim (halves limit input h)
-    [ inl e ↦ subst (λ (b : List ℕ). Reads b s es) e r
-    | inr l ↦ let n = file-length s es in let k = ap length (r .0) in let m = r .1 .1 in absurd (omega arith)
+    elim (halves limit input h) [
+      | inl e ↦ subst (λ (b : List ℕ). Reads b s es) e r
+      | inr l ↦ let n = file-length s es in let k = ap length (r .0) in let m = r .1 .1 in absurd (omega arith)
     ]
 
 pub input-refused : (limit : ℕ) (input : List ℕ) (e : ReadError) → 24588 < limit → Read-refused (take limit input) e → Read-refused input e
 input-refused limit input (Faulty f) h r =
-    elim (halves limit input h)
-    [ inl e ↦ subst (λ (b : List ℕ). File-faulty b f) e r
-    | inr l ↦ subst (λ (b : List ℕ). File-faulty b f) (take-append-drop limit input) (file-longer (take limit input) (drop limit input) f l r)
+    elim (halves limit input h) [
+      | inl e ↦ subst (λ (b : List ℕ). File-faulty b f) e r
+      | inr l ↦ subst (λ (b : List ℕ). File-faulty b f) (take-append-drop limit input) (file-longer (take limit input) (drop limit input) f l r)
     ]
 input-refused limit input NoMemory h r = tt

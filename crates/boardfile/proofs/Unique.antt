@@ -61,9 +61,10 @@ event-length (Post task) = refl
 event-length Run = refl
 
 pub same-event : (e e′ : Call) (t t′ : List ℕ) → event-bytes e ++ t ≡ event-bytes e′ ++ t′ → (e ≡ e′) × (t ≡ t′)
-same-event e e′ t t′ p =
-    (sym (event-back e t) ∙ ap event-at p ∙ event-back e′ t′
-    , sym (drop-at (event-bytes e) t 6 (event-length e)) ∙ ap (λ (b : List ℕ). drop 6 b) p ∙ drop-at (event-bytes e′) t′ 6 (event-length e′))
+same-event e e′ t t′ p = (
+  sym (event-back e t) ∙ ap event-at p ∙ event-back e′ t′,
+  sym (drop-at (event-bytes e) t 6 (event-length e)) ∙ ap (λ (b : List ℕ). drop 6 b) p ∙ drop-at (event-bytes e′) t′ 6 (event-length e′),
+)
 
 pub events-length : (es : List Call) → length (joined event-bytes es) ≡ 6 * length es
 events-length [] = refl
@@ -98,14 +99,14 @@ none-past b t t′ n i p q none l = follows (p .0) (q .0) t t′ (p .2) (omega a
 
 -- the settings that a record could be
 abbrev settings-at : List ℕ → Settings
-settings-at b = record
-  { clients = getD b 0 0
-  ; places = getD b 1 0
-  ; tasks = getD b 2 0
-  ; line = cond (eqb (getD b 3 0) 0) FirstCome RoundRobin
-  ; policy = cond (eqb (getD b 4 0) 0) policy.Immediate (policy.Deferred (getD b 5 0 * 256 + getD b 6 0))
-  ; device = cond (eqb (getD b 7 0) 0) Registers Converter
-  }
+settings-at b = record {
+  clients = getD b 0 0;
+  places = getD b 1 0;
+  tasks = getD b 2 0;
+  line = cond (eqb (getD b 3 0) 0) FirstCome RoundRobin;
+  policy = cond (eqb (getD b 4 0) 0) policy.Immediate (policy.Deferred (getD b 5 0 * 256 + getD b 6 0));
+  device = cond (eqb (getD b 7 0) 0) Registers Converter;
+}
 
 line-back : (k : LineKind) → cond (eqb (line-byte k) 0) FirstCome RoundRobin ≡ k
 line-back FirstCome = refl
@@ -133,9 +134,10 @@ settings-length s =
     omega arith
 
 pub same-settings : (s s′ : Settings) (t t′ : List ℕ) → settings-bytes s ++ t ≡ settings-bytes s′ ++ t′ → (s ≡ s′) × (t ≡ t′)
-same-settings s s′ t t′ p =
-    (sym (settings-back s t) ∙ ap settings-at p ∙ settings-back s′ t′
-    , sym (drop-at (settings-bytes s) t 8 (settings-length s)) ∙ ap (λ (b : List ℕ). drop 8 b) p ∙ drop-at (settings-bytes s′) t′ 8 (settings-length s′))
+same-settings s s′ t t′ p = (
+  sym (settings-back s t) ∙ ap settings-at p ∙ settings-back s′ t′,
+  sym (drop-at (settings-bytes s) t 8 (settings-length s)) ∙ ap (λ (b : List ℕ). drop 8 b) p ∙ drop-at (settings-bytes s′) t′ 8 (settings-length s′),
+)
 
 -- ---- files
 

@@ -1,7 +1,7 @@
 -- The first fault of a board file, and its place.
 -- Check: a test, the fault where it fails, and the tests after it.
 -- Settings-faulty, Events-faulty: the tests of each section, in their order; File-faulty: those of the whole file.
--- Parts-faulty: the writer's tests of its parts.
+-- Parts-faulty: the writer's tests of its parts. Unwritable: those of a file as it is held.
 -- Read-refused, Write-refused: what reader and writer answer where they fail.
 use Prim.Native.Nat.{ℕ, _+_, _-_, _*_, _/_, _<_, _≤_}
 use mathlib.Core.Path.{_≡_}
@@ -9,7 +9,9 @@ use mathlib.Core.Logic.{_⊎_}
 use mathlib.Core.List.{List, _++_}
 use lib.ListN.{length, getD, take, drop}
 use Rattle.std.specs.Joined.{joined}
+use Rattle.std.specs.Of.Vec.{vec-items}
 use Rattle.calls.specs.declared.call.Call.{Call}
+use Rattle.boardfile.specs.declared.parts.BoardFile.{BoardFile}
 use Rattle.boardfile.specs.declared.parts.Settings.{Settings}
 use Rattle.boardfile.specs.declared.fault.FaultKind.{FaultKind}
 use Rattle.boardfile.specs.declared.fault.FaultKind.the-variants.{Clients, Places, Tasks, Missing, Count, Unfit, Trailing}
@@ -18,8 +20,8 @@ use Rattle.boardfile.specs.declared.fault.ReadError.{ReadError}
 use Rattle.boardfile.specs.declared.fault.ReadError.the-variants as read
 use Rattle.boardfile.specs.declared.fault.WriteError.{WriteError}
 use Rattle.boardfile.specs.declared.fault.WriteError.the-variants as write
-use Rattle.boardfile.specs.Layout.{settings-bytes, event-bytes, file-bytes}
-use Rattle.boardfile.specs.Fits.{Clients-fit, Places-fit, Tasks-fit, Event-fits, Events-fit, File-fits}
+use Rattle.boardfile.specs.Layout.{settings-bytes, event-bytes, layout}
+use Rattle.boardfile.specs.Fits.{Clients-fit, Places-fit, Tasks-fit, Event-fits, Events-fit, Fits}
 
 -- f is a fault of this test, or else of a later one
 abbrev pub Check : Type 0 → (Fault → Type 0) → (Fault → Type 0) → Fault → Type 0
@@ -103,7 +105,11 @@ Parts-faulty s es =
     (Check (Events-fit es) (λ f. (i : ℕ) × Unfit-at es i × At Unfit 2 i f)
     No-fault))
 
+-- the writer's tests of a file as it is held
+abbrev pub Unwritable : BoardFile → Fault → Type 0
+Unwritable file = Parts-faulty (file .settings) (vec-items (file .events))
+
 -- what the writer answers where it fails, with room for so many bytes
-abbrev pub Write-refused : Settings → List Call → ℕ → WriteError → Type 0
-Write-refused s es room (write.Faulty f) = Parts-faulty s es f
-Write-refused s es room write.TooSmall = File-fits s es × (room < length (file-bytes s es))
+abbrev pub Write-refused : BoardFile → ℕ → WriteError → Type 0
+Write-refused file room (write.Faulty f) = Unwritable file f
+Write-refused file room write.TooSmall = Fits file × (room < length (layout file))

@@ -2,13 +2,15 @@
 -- high, low: the two bytes of a number below 65,536; the high one comes first.
 -- settings-bytes, event-bytes: the records, of eight and of six bytes.
 -- events-bytes: the second section, a count and a record for each event.
--- file-bytes: the whole file; the first section is a count of 1 and the settings.
+-- file-bytes: the whole file; the first section is a count of 1 and the settings. layout: the same of a file as it is held.
 use Prim.Native.Nat.{ℕ, _/_, _%_}
 use mathlib.Core.List.{List, [], _∷_, _++_}
 use lib.ListN.{length}
 use Rattle.std.specs.Joined.{joined}
+use Rattle.std.specs.Of.Vec.{vec-items}
 use Rattle.calls.specs.declared.call.Call.{Call}
 use Rattle.calls.specs.declared.call.Call.the-variants.{Request, Immediate, Release, Begin, Collect, Ready, Done, Tick, Post, Run}
+use Rattle.boardfile.specs.declared.parts.BoardFile.{BoardFile}
 use Rattle.boardfile.specs.declared.parts.Settings.{Settings}
 use Rattle.boardfile.specs.declared.parts.LineKind.{LineKind}
 use Rattle.boardfile.specs.declared.parts.LineKind.the-variants.{FirstCome, RoundRobin}
@@ -57,3 +59,6 @@ events-bytes es = high (length es) ∷ low (length es) ∷ joined event-bytes es
 
 abbrev pub file-bytes : Settings → List Call → List ℕ
 file-bytes s es = 0 ∷ 1 ∷ (settings-bytes s ++ events-bytes es)
+
+abbrev pub layout : BoardFile → List ℕ
+layout file = file-bytes (file .settings) (vec-items (file .events))

@@ -1,4 +1,3 @@
-pub mod Copies
 pub mod Faults
 pub mod Fits
 pub mod Layout

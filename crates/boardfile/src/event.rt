@@ -20,7 +20,14 @@ fn decode(kind: u8, who: u8, order_kind: u8, high: u8, low: u8, value: u8) -> Op
         (2, client, 0, 0, 0, 0) => Some(Call::Release { client }),
         (3, client, kind, _, _, value) => {
             let address = u16::from_be_bytes([high, low]);
-            Some(Call::Begin { client, order: Order { kind, address, value } })
+            Some(Call::Begin {
+                client,
+                order: Order {
+                    kind,
+                    address,
+                    value,
+                },
+            })
         }
         (4, client, 0, 0, 0, 0) => Some(Call::Collect { client }),
         (5, 0, 0, 0, 0, 0) => Some(Call::Ready),

@@ -18,7 +18,10 @@ use std::alloc::Global;
 fn fault(kind: FaultKind, index: u16) -> ReadError
     ensures { λ r. ⌜ r ≡ ReadError.Faulty (record { kind = kind; place = (2, index) }) ⌝ }
 {
-    ReadError::Faulty(Fault { kind, place: (2, index) })
+    ReadError::Faulty(Fault {
+        kind,
+        place: (2, index),
+    })
 }
 
 // The events of a file, whose second section the bytes are.

@@ -1,5 +1,4 @@
 // The board file: its parts, its reader and its writer.
-pub mod copy;
 mod event;
 mod events;
 pub mod fault;

@@ -39,7 +39,14 @@ fn encode_device(kind: DeviceKind) -> u8
 pub(crate) fn encode(settings: Settings) -> [u8; 8]
     ensures { λ r. ⌜ r ≡ settings-bytes settings ⌝ }
 {
-    let Settings { clients, places, tasks, line, policy, device } = settings;
+    let Settings {
+        clients,
+        places,
+        tasks,
+        line,
+        policy,
+        device,
+    } = settings;
     let line = encode_line(line);
     let device = encode_device(device);
     match policy {
@@ -66,7 +73,9 @@ fn decode_policy(kind: u8, high: u8, low: u8) -> Option<PolicyKind>
 {
     match (kind, high, low) {
         (0, 0, 0) => Some(PolicyKind::Immediate),
-        (1, _, _) => Some(PolicyKind::Deferred { delay: u16::from_be_bytes([high, low]) }),
+        (1, _, _) => Some(PolicyKind::Deferred {
+            delay: u16::from_be_bytes([high, low]),
+        }),
         _ => None,
     }
 }
@@ -85,7 +94,18 @@ fn decode_device(byte: u8) -> Option<DeviceKind>
 fn take_settings(bytes: &[u8]) -> Option<(Settings, &[u8])>
     ensures { λ r. ⌜ BySome r ((s : Settings) (t : List ℕ) → now (bytes .entry) ≡ settings-bytes s ++ t → ⊥) (λ p. now (bytes .entry) ≡ settings-bytes (p .0) ++ now (p .1)) ⌝ }
 {
-    let [clients, places, tasks, line, policy, high, low, device, rest @ ..] = bytes else {
+    let [
+        clients,
+        places,
+        tasks,
+        line,
+        policy,
+        high,
+        low,
+        device,
+        rest @ ..,
+    ] = bytes
+    else {
         return None;
     };
     let settings = Settings {
@@ -102,14 +122,23 @@ fn take_settings(bytes: &[u8]) -> Option<(Settings, &[u8])>
 fn fault(kind: FaultKind) -> Fault
     ensures { λ r. ⌜ r ≡ record { kind = kind; place = (1, 0) } ⌝ }
 {
-    Fault { kind, place: (1, 0) }
+    Fault {
+        kind,
+        place: (1, 0),
+    }
 }
 
 // The tests of settings that fit their record.
 pub(crate) fn check(settings: Settings) -> Result<(), Fault>
     ensures { λ r. ⌜ Cases r (λ _. Settings-fit settings) (λ f. Settings-checks settings No-fault f) ⌝ }
 {
-    let Settings { clients, places, tasks, line, .. } = settings;
+    let Settings {
+        clients,
+        places,
+        tasks,
+        line,
+        ..
+    } = settings;
     if clients < 1 || clients > 32 {
         return Err(fault(FaultKind::Clients));
     }

@@ -2,16 +2,17 @@
 ghost use mathlib.Core.Path.{_≡_};
 ghost use mathlib.Core.List.{List, [], _∷_, _++_};
 ghost use Prim.Native.Nat.{ℕ, _+_, _*_, _≤_};
-ghost use lib.ListN.{length, drop};
+ghost use lib.ListN.{length, take, drop};
 ghost use Rattle.std.specs.Joined.{joined};
 ghost use Rattle.std.specs.Options.{Cases as BySome};
 ghost use Rattle.std.specs.Orderings.{Decides};
 ghost use Rattle.std.specs.Results.{Cases};
-ghost use Rattle.std.specs.Of.Vec.{vec-items};
+ghost use Rattle.std.specs.Vec.{made};
 ghost use Rattle.boardfile.specs.Layout.{event-bytes, events-bytes, settings-bytes};
-ghost use Rattle.boardfile.specs.Fits.{Event-fits, Events-fit, File-fits};
-ghost use Rattle.boardfile.specs.Faults.{Parts-faulty, Unfit-at};
-ghost use Rattle.boardfile.specs.Writes.{Writes};
+ghost use Rattle.boardfile.specs.Fits.{Event-fits, Events-fit, Fits};
+ghost use Rattle.boardfile.specs.Faults.{Unfit-at, Unwritable};
+ghost use Rattle.boardfile.specs.Reads.{Reads-as};
+ghost use Rattle.boardfile.specs.Writes.{Measures, Writes};
 use crate::event;
 use crate::fault::Fault;
 use crate::fault::FaultKind;
@@ -87,24 +88,38 @@ fn first_unfit(events: &[Call]) -> Option<usize>
 
 // The reader's tests of the parts.
 fn check(file: &BoardFile) -> Result<(), Fault>
-    ensures { λ r. ⌜ Cases r (λ _. File-fits (now (file .entry) .settings) (vec-items (now (file .entry) .events))) (Parts-faulty (now (file .entry) .settings) (vec-items (now (file .entry) .events))) ⌝ }
+    ensures { λ r. ⌜ Cases r (λ _. Fits (now (file .entry))) (Unwritable (now (file .entry))) ⌝ }
 {
     settings::check(file.settings)?;
     if file.events.len() > 4096 {
-        return Err(Fault { kind: FaultKind::Count, place: (2, 0) });
+        return Err(Fault {
+            kind: FaultKind::Count,
+            place: (2, 0),
+        });
     }
     match first_unfit(file.events.as_slice()) {
-        Some(index) => Err(Fault { kind: FaultKind::Unfit, place: (2, index as u16) }),
+        Some(index) => Err(Fault {
+            kind: FaultKind::Unfit,
+            place: (2, index as u16),
+        }),
         None => Ok(()),
     }
 }
 
-// Writes the file at the start of the buffer, and answers its length.
-pub fn write(file: &BoardFile, buf: &mut [u8]) -> Result<usize, WriteError>
-    ensures { λ r. ⌜ Writes (now (file .entry) .settings) (vec-items (now (file .entry) .events)) (now (buf .entry)) (now (buf .exit)) r ⌝ }
+// The length of the file, if its parts pass the tests.
+fn measure(file: &BoardFile) -> Result<usize, Fault>
+    ensures { λ r. ⌜ Cases r (λ n. Measures (now (file .entry)) n) (Unwritable (now (file .entry))) ⌝ }
 {
     check(file)?;
-    let len = 12 + 6 * file.events.len();
+    Ok(12 + 6 * file.events.len())
+}
+
+// Writes the file at the start of the buffer, and answers its length.
+pub fn write(file: &BoardFile, buf: &mut [u8]) -> Result<usize, WriteError>
+    ensures answer { λ r. ⌜ Writes (now (file .entry)) (now (buf .entry)) (now (buf .exit)) r ⌝ }
+    ensures reads_back { λ r. ⌜ made r (λ n. Reads-as (take n (now (buf .exit))) (now (file .entry))) ⌝ }
+{
+    let len = measure(file)?;
     if buf.len() < len {
         return Err(WriteError::TooSmall);
     }

@@ -1,5 +1,4 @@
 // Damaged files, each with its fault and place.
-use boardfile::fault::Fault;
 use boardfile::fault::FaultDebug;
 use boardfile::fault::ReadError;
 use boardfile::reader::read;
@@ -7,7 +6,12 @@ use std::alloc::Global;
 use std::test::*;
 
 // The bytes are refused by this number at this place.
-pub(crate) fn refused(heap: Global, bytes: &[u8], number: u8, place: (u8, u16)) -> Result<(), Fail> {
+pub(crate) fn refused(
+    heap: Global,
+    bytes: &[u8],
+    number: u8,
+    place: (u8, u16),
+) -> Result<(), Fail> {
     match read(heap, bytes) {
         Ok(_) => Err(Fail::new("a faulty file was read")),
         Err(ReadError::Faulty(fault)) => {
@@ -18,16 +22,19 @@ pub(crate) fn refused(heap: Global, bytes: &[u8], number: u8, place: (u8, u16)) 
     }
 }
 
-// A settings section with this record.
+// The same of a settings section with this record.
 fn settings(heap: Global, record: [u8; 8], number: u8) -> Result<(), Fail> {
-    let [a, b, c, d, e, f, g, h] = record;
-    refused(heap, &[0, 1, a, b, c, d, e, f, g, h, 0, 0], number, (1, 0))
+    let mut bytes = Vec::from_slice(heap, &[0, 1])?;
+    bytes.extend_from_slice(&record)?;
+    bytes.extend_from_slice(&[0, 0])?;
+    refused(heap, bytes.as_slice(), number, (1, 0))
 }
 
-// An events section of one whole record, behind good settings.
-fn event(heap: Global, record: [u8; 6], number: u8) -> Result<(), Fail> {
-    let [a, b, c, d, e, f] = record;
-    refused(heap, &[0, 1, 3, 2, 2, 0, 0, 0, 0, 1, 0, 1, a, b, c, d, e, f], number, (2, 0))
+// The same of an events section, behind good settings.
+fn events(heap: Global, section: &[u8], number: u8, record: u16) -> Result<(), Fail> {
+    let mut bytes = Vec::from_slice(heap, &[0, 1, 3, 2, 2, 0, 0, 0, 0, 1])?;
+    bytes.extend_from_slice(section)?;
+    refused(heap, bytes.as_slice(), number, (2, record))
 }
 
 #[test]
@@ -40,65 +47,60 @@ fn settings_count(rt: LibcRuntime) -> Result<(), Fail> {
     refused(heap, &[1, 0, 3, 2, 2, 0, 0, 0, 0, 1, 0, 0], 22, (1, 0))?;
     refused(heap, &[0, 1], 21, (1, 0))?;
     // A record that is not whole comes before one that does not fit.
-    refused(heap, &[0, 1, 3, 2, 2, 9, 9, 0, 0], 21, (1, 0))
+    refused(heap, &[0, 1, 3, 2, 2, 9, 9, 0, 0], 21, (1, 0))?;
+    // The settings are judged before any of the events.
+    refused(heap, &[0, 1, 3, 2, 0, 0, 0, 0, 0, 1], 18, (1, 0))
 }
 
 #[test]
-fn settings_unfit(rt: LibcRuntime) -> Result<(), Fail> {
+fn settings_records(rt: LibcRuntime) -> Result<(), Fail> {
     let heap = rt.alloc();
     settings(heap, [3, 2, 2, 2, 0, 0, 0, 1], 23)?;
     settings(heap, [3, 2, 2, 0, 2, 0, 0, 1], 23)?;
     settings(heap, [3, 2, 2, 0, 0, 1, 0, 1], 23)?;
     settings(heap, [3, 2, 2, 0, 0, 0, 1, 1], 23)?;
     settings(heap, [3, 2, 2, 0, 0, 0, 0, 2], 23)?;
-    // What does not fit comes before what is out of range.
-    settings(heap, [0, 0, 0, 0, 0, 0, 0, 2], 23)
-}
-
-#[test]
-fn settings_out_of_range(rt: LibcRuntime) -> Result<(), Fail> {
-    let heap = rt.alloc();
+    // What does not fit comes before what is out of range, and that in its order.
+    settings(heap, [0, 0, 0, 0, 0, 0, 0, 2], 23)?;
     settings(heap, [0, 0, 0, 0, 0, 0, 0, 1], 16)?;
     settings(heap, [33, 0, 0, 0, 0, 0, 0, 1], 16)?;
     settings(heap, [3, 0, 0, 0, 0, 0, 0, 1], 17)?;
     settings(heap, [3, 4, 0, 0, 0, 0, 0, 1], 17)?;
     settings(heap, [3, 2, 0, 1, 0, 0, 0, 1], 17)?;
     settings(heap, [3, 2, 0, 0, 0, 0, 0, 1], 18)?;
-    settings(heap, [32, 32, 0, 1, 1, 255, 255, 0], 18)?;
-    // The settings are judged before any of the events.
-    refused(heap, &[0, 1, 3, 2, 0, 0, 0, 0, 0, 1], 18, (1, 0))
+    settings(heap, [32, 32, 0, 1, 1, 255, 255, 0], 18)
 }
 
 #[test]
 fn events_count(rt: LibcRuntime) -> Result<(), Fail> {
     let heap = rt.alloc();
-    refused(heap, &[0, 1, 3, 2, 2, 0, 0, 0, 0, 1], 21, (2, 0))?;
-    refused(heap, &[0, 1, 3, 2, 2, 0, 0, 0, 0, 1, 0], 21, (2, 0))?;
-    refused(heap, &[0, 1, 3, 2, 2, 0, 0, 0, 0, 1, 16, 1], 22, (2, 0))?;
-    refused(heap, &[0, 1, 3, 2, 2, 0, 0, 0, 0, 1, 255, 255], 22, (2, 0))?;
-    refused(heap, &[0, 1, 3, 2, 2, 0, 0, 0, 0, 1, 16, 0], 21, (2, 0))?;
-    refused(heap, &[0, 1, 3, 2, 2, 0, 0, 0, 0, 1, 0, 2, 7, 0, 0, 0, 0, 0, 7, 0, 0], 21, (2, 1))?;
+    events(heap, &[], 21, 0)?;
+    events(heap, &[0], 21, 0)?;
+    events(heap, &[16, 1], 22, 0)?;
+    events(heap, &[255, 255], 22, 0)?;
+    events(heap, &[16, 0], 21, 0)?;
+    events(heap, &[0, 2, 7, 0, 0, 0, 0, 0, 7, 0, 0], 21, 1)?;
     // A record that is not whole comes before an earlier one that does not fit.
-    refused(heap, &[0, 1, 3, 2, 2, 0, 0, 0, 0, 1, 0, 2, 99, 0, 0, 0, 0, 0, 7, 0, 0], 21, (2, 1))?;
-    refused(heap, &[0, 1, 3, 2, 2, 0, 0, 0, 0, 1, 0, 0, 0], 24, (2, 0))?;
-    refused(heap, &[0, 1, 3, 2, 2, 0, 0, 0, 0, 1, 0, 1, 7, 0, 0, 0, 0, 0, 7], 24, (2, 1))?;
+    events(heap, &[0, 2, 99, 0, 0, 0, 0, 0, 7, 0, 0], 21, 1)?;
+    events(heap, &[0, 0, 0], 24, 0)?;
+    events(heap, &[0, 1, 7, 0, 0, 0, 0, 0, 7], 24, 1)?;
     // What does not fit comes before bytes that follow.
-    refused(heap, &[0, 1, 3, 2, 2, 0, 0, 0, 0, 1, 0, 2, 7, 0, 0, 0, 0, 0, 7, 1, 0, 0, 0, 0, 7], 23, (2, 1))
+    events(heap, &[0, 2, 7, 0, 0, 0, 0, 0, 7, 1, 0, 0, 0, 0, 7], 23, 1)
 }
 
 #[test]
-fn events_unfit(rt: LibcRuntime) -> Result<(), Fail> {
+fn events_records(rt: LibcRuntime) -> Result<(), Fail> {
     let heap = rt.alloc();
-    event(heap, [10, 0, 0, 0, 0, 0], 23)?;
-    event(heap, [255, 0, 0, 0, 0, 0], 23)?;
-    event(heap, [0, 0, 1, 0, 0, 0], 23)?;
-    event(heap, [1, 0, 0, 1, 0, 0], 23)?;
-    event(heap, [2, 0, 0, 0, 1, 0], 23)?;
-    event(heap, [4, 0, 0, 0, 0, 1], 23)?;
-    event(heap, [5, 1, 0, 0, 0, 0], 23)?;
-    event(heap, [6, 2, 0, 0, 0, 0], 23)?;
-    event(heap, [6, 0, 1, 0, 0, 9], 23)?;
-    event(heap, [7, 1, 0, 0, 0, 0], 23)?;
-    event(heap, [8, 1, 0, 0, 0, 1], 23)?;
-    event(heap, [9, 1, 0, 0, 0, 0], 23)
+    events(heap, &[0, 1, 10, 0, 0, 0, 0, 0], 23, 0)?;
+    events(heap, &[0, 1, 255, 0, 0, 0, 0, 0], 23, 0)?;
+    events(heap, &[0, 1, 0, 0, 1, 0, 0, 0], 23, 0)?;
+    events(heap, &[0, 1, 1, 0, 0, 1, 0, 0], 23, 0)?;
+    events(heap, &[0, 1, 2, 0, 0, 0, 1, 0], 23, 0)?;
+    events(heap, &[0, 1, 4, 0, 0, 0, 0, 1], 23, 0)?;
+    events(heap, &[0, 1, 5, 1, 0, 0, 0, 0], 23, 0)?;
+    events(heap, &[0, 1, 6, 2, 0, 0, 0, 0], 23, 0)?;
+    events(heap, &[0, 1, 6, 0, 1, 0, 0, 9], 23, 0)?;
+    events(heap, &[0, 1, 7, 1, 0, 0, 0, 0], 23, 0)?;
+    events(heap, &[0, 1, 8, 1, 0, 0, 0, 1], 23, 0)?;
+    events(heap, &[0, 1, 9, 1, 0, 0, 0, 0], 23, 0)
 }

@@ -2,8 +2,8 @@
 #[cfg(test)]
 mod cases;
 #[cfg(test)]
-mod limits;
-#[cfg(test)]
 mod example;
+#[cfg(test)]
+mod limits;
 #[cfg(test)]
 mod writing;

@@ -3,7 +3,7 @@ use std::error::AnyError;
 use std::io::Read;
 use words::listing::list;
 
-// One byte more than the longest board file, so that a byte past its end is seen.
+// One byte more than the longest board file has: what comes after it changes no listing.
 const LIMIT: u64 = 24_589;
 
 // The text goes out in one write.
@@ -17,5 +17,11 @@ fn run(rt: &LibcRuntime) -> Result<(), AnyError> {
 }
 
 fn main(rt: LibcRuntime) -> Result<(), AnyError> {
-    rt.report(run(&rt))
+    match run(&rt) {
+        Ok(()) => Ok(()),
+        Err(error) => {
+            let _ = eprintln!(rt, "listing: {error}");
+            Err(error)
+        }
+    }
 }

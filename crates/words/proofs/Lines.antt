@@ -24,6 +24,6 @@ lines-more es d i old text more l p q =
     q ∙ ap (λ (t : List ℕ). t ++ event-line i (getD es i d)) p
     ∙ append-assoc old (event-lines 0 (take i es)) (event-line i (getD es i d))
     ∙ ap (λ (t : List ℕ). old ++ t)
-      (ap (λ (k : ℕ). event-lines 0 (take i es) ++ event-line k (getD es i d)) (sym n)
-      ∙ sym (lines-push 0 (take i es) (getD es i d))
-      ∙ ap (λ (xs : List Call). event-lines 0 xs) (sym (take-more es i d l)))
+    (ap (λ (k : ℕ). event-lines 0 (take i es) ++ event-line k (getD es i d)) (sym n)
+    ∙ sym (lines-push 0 (take i es) (getD es i d))
+    ∙ ap (λ (xs : List Call). event-lines 0 xs) (sym (take-more es i d l)))

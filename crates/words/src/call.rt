@@ -19,7 +19,10 @@ pub impl fmt::Display for CallWords as CallWordsDisplay {
                 let kind = order.kind;
                 let address = order.address;
                 let value = order.value;
-                write!(f, "begin client {client} kind {kind} address {address} value {value}")
+                write!(
+                    f,
+                    "begin client {client} kind {kind} address {address} value {value}"
+                )
             }
             Call::Collect { client } => write!(f, "collect client {client}"),
             Call::Ready => write!(f, "ready"),

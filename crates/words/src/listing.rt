@@ -1,23 +1,25 @@
 // The listing of a board file.
 ghost use mathlib.Core.Path.{_≡_};
-ghost use mathlib.Core.List.{_++_};
+ghost use Prim.Native.Nat.{ℕ};
+ghost use mathlib.Core.List.{List, _++_};
+ghost use lib.ListN.{take};
 ghost use Rattle.std.specs.Of.String.{string-bytes};
 ghost use Rattle.std.specs.Of.Vec.{vec-items};
 ghost use Rattle.std.specs.Vec.{made};
-ghost use Rattle.words.specs.Lists.{Lists};
+ghost use Rattle.words.specs.Lists.{Lists, Tells};
 ghost use Rattle.words.specs.Words.{event-line, event-lines, listing};
 use crate::call::CallWords;
+use crate::call::CallWordsDisplay;
 use crate::fault::FaultWords;
+use crate::fault::FaultWordsDisplay;
 use crate::settings::SettingsWords;
+use crate::settings::SettingsWordsDisplay;
 use boardfile::fault::ReadError;
 use boardfile::parts::BoardFile;
 use boardfile::reader::read;
 use calls::call::Call;
 use std::alloc::AllocError;
 use std::alloc::Global;
-use crate::call::CallWordsDisplay;
-use crate::fault::FaultWordsDisplay;
-use crate::settings::SettingsWordsDisplay;
 
 // Adds the line of an event. Writing to a text fails for want of memory alone.
 fn add_event(text: &mut String, index: usize, event: Call) -> Result<(), AllocError>
@@ -49,16 +51,26 @@ pub fn list_parts(heap: Global, file: &BoardFile) -> Result<String, AllocError>
     Ok(text)
 }
 
-// The listing of the bytes, or their first fault.
-pub fn list(heap: Global, bytes: &[u8]) -> Result<String, AllocError>
-    ensures { λ r. ⌜ made r (λ text. Lists (now (bytes .entry)) (string-bytes text)) ⌝ }
+// The line of a faulty file.
+fn list_error(heap: Global, error: ReadError) -> Result<String, AllocError>
+    ensures { λ r. ⌜ made r (λ text. Tells error (string-bytes text)) ⌝ }
 {
-    match read(heap, bytes) {
-        Ok(file) => list_parts(heap, &file),
-        Err(ReadError::Faulty(fault)) => {
+    match error {
+        ReadError::Faulty(fault) => {
             let fault = FaultWords(fault);
             format!(heap, "{fault}\n")
         }
-        Err(ReadError::NoMemory) => Err(AllocError),
+        ReadError::NoMemory => Err(AllocError),
+    }
+}
+
+// The listing of the bytes, or their first fault. The first 24,589 bytes of an input list as the whole of it does.
+pub fn list(heap: Global, bytes: &[u8]) -> Result<String, AllocError>
+    ensures answer { λ r. ⌜ made r (λ text. Lists (now (bytes .entry)) (string-bytes text)) ⌝ }
+    ensures whole { λ r. ⌜ ((input : List ℕ) → now (bytes .entry) ≡ take 24589 input → made r (λ text. Lists input (string-bytes text))) ⌝ }
+{
+    match read(heap, bytes) {
+        Ok(file) => list_parts(heap, &file),
+        Err(error) => list_error(heap, error),
     }
 }

@@ -47,10 +47,20 @@ pub impl fmt::Display for SettingsWords as SettingsWordsDisplay {
     ghost shown = { λ w. Some (settings-words (w .0)) };
 
     fn fmt<W: fmt::Write>(&self, f: &mut fmt::Formatter<W>) -> fmt::Result {
-        let Settings { clients, places, tasks, line, policy, device } = self.0;
+        let Settings {
+            clients,
+            places,
+            tasks,
+            line,
+            policy,
+            device,
+        } = self.0;
         let line = line_word(line);
         let policy = PolicyWords(policy);
         let device = device_word(device);
-        write!(f, "clients {clients} places {places} tasks {tasks} line {line} policy {policy} device {device}")
+        write!(
+            f,
+            "clients {clients} places {places} tasks {tasks} line {line} policy {policy} device {device}"
+        )
     }
 }

@@ -22,4 +22,4 @@ returns c =
     let rest = take (length b - 8) (drop 8 b) in
     front 8 b h
     ∙ ap (λ (u : List ℕ). getD b 0 0 ∷ getD b 1 0 ∷ getD b 2 0 ∷ u)
-      (decoded _ _ _ _ _ _ _ _ rest (c .in-Continue-decode-line .ensures tt) (c .in-Continue-decode-policy .ensures tt) (c .in-Continue-decode-device .ensures tt))
+    (decoded _ _ _ _ _ _ _ _ rest (c .in-Continue-decode-line .ensures tt) (c .in-Continue-decode-policy .ensures tt) (c .in-Continue-decode-device .ensures tt))

@@ -9,22 +9,19 @@ use lib.ListN.{length, drop}
 use Rattle.std.specs.Of.Vec.{vec-items}
 use Rattle.std.specs.declared.result.Result.{Result}
 use Rattle.std.specs.declared.result.Result.the-variants.{Ok, Err}
-use Rattle.calls.specs.declared.call.Call.{Call}
-use Rattle.boardfile.specs.declared.parts.Settings.{Settings}
 use Rattle.boardfile.specs.declared.parts.BoardFile.{BoardFile}
 use Rattle.boardfile.specs.declared.fault.ReadError.the-variants.{NoMemory}
 use Rattle.boardfile.specs.declared.fault.WriteError.the-variants.{TooSmall}
-use Rattle.boardfile.specs.declared.copy.CopyError.{CopyError}
-use Rattle.boardfile.specs.declared.copy.CopyError.the-variants.{Unread, Unwritten}
-use Rattle.boardfile.specs.Layout.{file-bytes}
+use Rattle.boardcopy.specs.declared.CopyError.{CopyError}
+use Rattle.boardcopy.specs.declared.CopyError.the-variants.{Unread, Unwritten}
 use Rattle.boardfile.specs.Faults.{Read-refused, Write-refused}
 
 abbrev pub Rewrites : List ℕ → List ℕ → List ℕ → Result ℕ CopyError → Type 0
 Rewrites b before after (Ok n) = (n ≡ length b) × (after ≡ b ++ drop n before)
 Rewrites b before after (Err (Unread e)) = Read-refused b e × (after ≡ before)
 Rewrites b before after (Err (Unwritten e)) = (e ≡ TooSmall) × (length before < length b) × (after ≡ before)
 
-abbrev pub Rereads : Settings → List Call → List ℕ → List ℕ → Result BoardFile CopyError → Type 0
-Rereads s es before after (Ok file) = (file .settings ≡ s) × (vec-items (file .events) ≡ es)
-Rereads s es before after (Err (Unread e)) = e ≡ NoMemory
-Rereads s es before after (Err (Unwritten e)) = Write-refused s es (length before) e × (after ≡ before)
+abbrev pub Rereads : BoardFile → List ℕ → List ℕ → Result BoardFile CopyError → Type 0
+Rereads file before after (Ok again) = (again .settings ≡ file .settings) × (vec-items (again .events) ≡ vec-items (file .events))
+Rereads file before after (Err (Unread e)) = e ≡ NoMemory
+Rereads file before after (Err (Unwritten e)) = Write-refused file (length before) e × (after ≡ before)

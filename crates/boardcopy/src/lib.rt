@@ -1,17 +1,16 @@
-// Reading and writing undo each other.
-ghost use Rattle.std.specs.Of.Vec.{vec-items};
-ghost use Rattle.boardfile.specs.Copies.{Rewrites, Rereads};
-ghost use Rattle.boardfile.specs.declared.copy.CopyError.the-variants.{Unread, Unwritten};
+// Reading and writing a board file undo each other. Both laws follow from the contracts of the reader and the writer alone.
+ghost use Rattle.boardcopy.specs.Copies.{Rewrites, Rereads};
+ghost use Rattle.boardcopy.specs.declared.CopyError.the-variants.{Unread, Unwritten};
 ghost use mathlib.Core.Path.{_≡_};
-use crate::fault::ReadError;
-use crate::fault::ReadErrorDebug;
-use crate::fault::ReadErrorPartialEq;
-use crate::fault::WriteError;
-use crate::fault::WriteErrorDebug;
-use crate::fault::WriteErrorPartialEq;
-use crate::parts::BoardFile;
-use crate::reader::read;
-use crate::writer::write;
+use boardfile::fault::ReadError;
+use boardfile::fault::ReadErrorDebug;
+use boardfile::fault::ReadErrorPartialEq;
+use boardfile::fault::WriteError;
+use boardfile::fault::WriteErrorDebug;
+use boardfile::fault::WriteErrorPartialEq;
+use boardfile::parts::BoardFile;
+use boardfile::reader::read;
+use boardfile::writer::write;
 use std::alloc::Global;
 
 // Why a board file was not copied.
@@ -48,7 +47,7 @@ pub fn rewrite(heap: Global, bytes: &[u8], buf: &mut [u8]) -> Result<usize, Copy
 
 // Writes the file into the buffer and reads what was written: the same parts.
 pub fn reread(heap: Global, file: &BoardFile, buf: &mut [u8]) -> Result<BoardFile, CopyError>
-    ensures { λ r. ⌜ Rereads (now (file .entry) .settings) (vec-items (now (file .entry) .events)) (now (buf .entry)) (now (buf .exit)) r ⌝ }
+    ensures { λ r. ⌜ Rereads (now (file .entry)) (now (buf .entry)) (now (buf .exit)) r ⌝ }
 {
     let len = write(file, buf)?;
     let again = read(heap, &buf[0..len])?;
