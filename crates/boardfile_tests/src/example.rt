@@ -37,8 +37,8 @@ const EVENTS: [[u8; 6]; 22] = [
 
 fn example(heap: Global) -> Result<Vec<u8>, AllocError> {
     let mut bytes = Vec::from_slice(heap, &[0, 1, 3, 2, 2, 0, 0, 0, 0, 1, 0, 22])?;
-    for event in EVENTS {
-        bytes.extend_from_slice(&event)?;
+    for event in &EVENTS {
+        bytes.extend_from_slice(event)?;
     }
     Ok(bytes)
 }
