@@ -123,7 +123,7 @@ clean-events es h fit =
 
 -- ---- the file
 
-one-file : (b : List ℕ) → One (File-faulty b)
+pub one-file : (b : List ℕ) → One (File-faulty b)
 one-file b = one-settings b (Events-faulty (drop 10 b)) (one-events (drop 10 b))
 
 clean-file : (s : Settings) (es : List Call) → File-fits s es → Clean (File-faulty (file-bytes s es))

@@ -47,6 +47,8 @@ pub record Reading (b : List ℕ) (r : Result BoardFile ReadError) : Type 0 wher
   pub only : (s : Settings) (es : List Call) → Reads b s es → Gives s es r
   -- bytes with a first fault are refused by it
   pub first : (f : Fault) → File-faulty b f → Refuses f r
+  -- bytes have at most one first fault
+  pub one : (f g : Fault) → File-faulty b f → File-faulty b g → f ≡ g
   -- no other bytes read as the same parts
   pub distinct : made r (λ file. (other : List ℕ) → Reads-as other file → other ≡ b)
   -- the first 24,589 bytes of an input, one more than any file has, tell how the whole of it reads
