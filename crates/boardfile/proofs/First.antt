@@ -154,4 +154,4 @@ only-parts b s s′ es es′ p q = same-file s s′ es es′ (sym (p .0) ∙ q .
 -- a refusal of the second section, behind settings that fit, is one of the file
 pub events-refusal : (b : List ℕ) (s : Settings) (t : List ℕ) (e : ReadError) → b ≡ 0 ∷ 1 ∷ (settings-bytes s ++ t) → Settings-fit s → Events-refused t e → Read-refused b e
 events-refusal b s t (Faulty f) p h x = later-fault b s t (Events-faulty (drop 10 b)) f p h (rw (second-section b s t p) x)
-events-refusal b s t NoMemory p h x = tt
+events-refusal b s t NoMemory p h x = ((s, t, p, h), rw (second-section b s t p) x)

@@ -16,10 +16,10 @@ use Rattle.boardfile.specs.declared.fault.ReadError.the-variants.{Faulty, NoMe
 use Rattle.boardfile.specs.declared.fault.FaultKind.the-variants.{Trailing, Count}
 use Rattle.boardfile.specs.Layout.{settings-bytes, event-bytes}
 use Rattle.boardfile.specs.Fits.{Event-fits, Events-fit}
-use Rattle.boardfile.specs.Faults.{At, count-of, Has-settings, Has-events, No-event, First-unfit, Settings-checks, Settings-faulty, Events-faulty, File-faulty, Read-refused}
+use Rattle.boardfile.specs.Faults.{At, count-of, Has-settings, Has-events, No-event, First-unfit, Settings-checks, Settings-faulty, Events-faulty, File-faulty, Passes-settings, Wants-memory, Read-refused}
 use Rattle.boardfile.specs.Reads.{Reads}
 use Rattle.boardfile.proofs.Lends.{file-length}
-use Rattle.boardfile.proofs.Records.{fit-front}
+use Rattle.boardfile.proofs.Records.{fewer}
 use Rattle.boardfile.proofs.Unique.{settings-length, event-length, events-length}
 
 -- ---- a list and a longer one, u and u ++ z
@@ -72,24 +72,6 @@ settings-longer u z later later′ f h m (inr (p, inr (q, inr (r, inr (some, (s,
     inr (omega arith, inr (same-count u z p ∙ q, inr (omega arith, inr (settings-forth u z _ p some, settings-forth u z _ p (s, t, e, checks-map s later later′ f m a)))))
 
 -- ---- the second section
-
-joined-append : (xs ys : List Call) → joined event-bytes (xs ++ ys) ≡ joined event-bytes xs ++ joined event-bytes ys
-joined-append [] ys = refl
-joined-append (x ∷ xs) ys = ap (λ (l : List ℕ). event-bytes x ++ l) (joined-append xs ys) ∙ sym (append-assoc (event-bytes x) (joined event-bytes xs) (joined event-bytes ys))
-
--- where i events stand, fewer do
-fewer : (u t : List ℕ) (n i : ℕ) → n ≤ i → Has-events u i t → (t′ : List ℕ) × Has-events u n t′
-fewer u t n i l (es, k, fit, e) = (
-  joined event-bytes (drop n es) ++ t,
-  (
-    take n es,
-    length-take-le n es (omega arith),
-    fit-front es n fit,
-    e ∙ ap (λ (xs : List Call). joined event-bytes xs ++ t) (sym (take-append-drop n es))
-        ∙ ap (λ (l : List ℕ). l ++ t) (joined-append (take n es) (drop n es))
-        ∙ append-assoc (joined event-bytes (take n es)) (joined event-bytes (drop n es)) t,
-  ),
-)
 
 events-forth : (u z t : List ℕ) (n : ℕ) → 2 ≤ length u → Has-events u n t → Has-events (u ++ z) n (t ++ z)
 events-forth u z t n h (es, k, fit, e) =
@@ -149,13 +131,31 @@ events-longer u z f h (inr (p, inr (q, inr (r, inr (all, inl a))))) =
     )
 events-longer u z f h (inr (p, inr (q, inr (r, inr (all, inr (e, a)))))) = absurd a
 
+wants-longer : (u z : List ℕ) → Wants-memory u → Wants-memory (u ++ z)
+wants-longer u z w =
+    let l = length-append u z in
+    let n = same-count u z (w .counted) in
+    let p = w .allowed in
+    let q = w .whole in
+    let r = w .some in
+    record { counted = omega arith; allowed = omega arith; whole = omega arith; some = omega arith; event = (w .event .0 ++ z, events-forth u z (w .event .0) 1 (w .counted) (w .event .1)) }
+
 -- ---- the file
+
+passes-longer : (u z : List ℕ) → Passes-settings u → Passes-settings (u ++ z)
+passes-longer u z (s, t, e, h) =
+    (s, t ++ z, ap (λ (b : List ℕ). b ++ z) e ∙ ap (λ (b : List ℕ). 0 ∷ 1 ∷ b) (append-assoc (settings-bytes s) t z), h)
 
 file-longer : (u z : List ℕ) (f : Fault) → 24588 < length u → File-faulty u f → File-faulty (u ++ z) f
 file-longer u z f h =
     let d = length-drop 10 u in
     settings-longer u z (Events-faulty (drop 10 u)) (Events-faulty (drop 10 (u ++ z))) f (omega arith)
     (λ a. rw (drop-append-le 10 u z (omega arith)) (events-longer (drop 10 u) z f (omega arith) a))
+
+memory-longer : (u z : List ℕ) → 24588 < length u → Read-refused u NoMemory → Read-refused (u ++ z) NoMemory
+memory-longer u z h (settings, wants) =
+    let d = length-drop 10 u in
+    (passes-longer u z settings, rw (drop-append-le 10 u z (omega arith)) (wants-longer (drop 10 u) z wants))
 
 -- an input of which so much was taken is all there, or the part is longer than any file
 halves : (limit : ℕ) (input : List ℕ) → 24588 < limit → (take limit input ≡ input) ⊎ (24588 < length (take limit input))
@@ -178,4 +178,8 @@ input-refused limit input (Faulty f) h r =
       | inl e ↦ subst (λ (b : List ℕ). File-faulty b f) e r
       | inr l ↦ subst (λ (b : List ℕ). File-faulty b f) (take-append-drop limit input) (file-longer (take limit input) (drop limit input) f l r)
     ]
-input-refused limit input NoMemory h r = tt
+input-refused limit input NoMemory h r =
+    elim (halves limit input h) [
+      | inl e ↦ subst (λ (b : List ℕ). Read-refused b NoMemory) e r
+      | inr l ↦ subst (λ (b : List ℕ). Read-refused b NoMemory) (take-append-drop limit input) (memory-longer (take limit input) (drop limit input) l r)
+    ]

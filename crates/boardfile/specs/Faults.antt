@@ -2,11 +2,12 @@
 -- Check: a test, the fault where it fails, and the tests after it.
 -- Settings-faulty, Events-faulty: the tests of each section, in their order; File-faulty: those of the whole file.
 -- Parts-faulty: the writer's tests of its parts. Unwritable: those of a file as it is held.
+-- Wants-memory: where memory may run out: only once there is an event to keep.
 -- Read-refused, Write-refused: what reader and writer answer where they fail.
 use Prim.Native.Nat.{ℕ, _+_, _-_, _*_, _/_, _<_, _≤_}
 use mathlib.Core.Path.{_≡_}
 use mathlib.Core.Logic.{_⊎_}
-use mathlib.Core.List.{List, _++_}
+use mathlib.Core.List.{List, _∷_, _++_}
 use lib.ListN.{length, getD, take, drop}
 use Rattle.std.specs.Joined.{joined}
 use Rattle.std.specs.Of.Vec.{vec-items}
@@ -21,7 +22,7 @@ use Rattle.boardfile.specs.declared.fault.ReadError.the-variants as read
 use Rattle.boardfile.specs.declared.fault.WriteError.{WriteError}
 use Rattle.boardfile.specs.declared.fault.WriteError.the-variants as write
 use Rattle.boardfile.specs.Layout.{settings-bytes, event-bytes, layout}
-use Rattle.boardfile.specs.Fits.{Clients-fit, Places-fit, Tasks-fit, Event-fits, Events-fit, Fits}
+use Rattle.boardfile.specs.Fits.{Clients-fit, Places-fit, Tasks-fit, Settings-fit, Event-fits, Events-fit, Fits}
 
 -- f is a fault of this test, or else of a later one
 abbrev pub Check : Type 0 → (Fault → Type 0) → (Fault → Type 0) → Fault → Type 0
@@ -82,17 +83,29 @@ Events-faulty b =
     (Check (length b ≡ 2 + 6 * count-of b) (At Trailing 2 (count-of b))
     No-fault))))
 
+-- there is an event to keep, so memory is wanted
+pub record Wants-memory (b : List ℕ) : Type 0 where
+  pub counted : 2 ≤ length b
+  pub allowed : count-of b ≤ 4096
+  pub whole : 2 + 6 * count-of b ≤ length b
+  pub some : 1 ≤ count-of b
+  pub event : (t : List ℕ) × Has-events b 1 t
+
 -- what the reader of the events answers where it fails
 abbrev pub Events-refused : List ℕ → ReadError → Type 0
 Events-refused b (read.Faulty f) = Events-faulty b f
-Events-refused b read.NoMemory = Unit {0}
+Events-refused b read.NoMemory = Wants-memory b
+
+-- the bytes begin with a section of settings that fit
+abbrev pub Passes-settings : List ℕ → Type 0
+Passes-settings b = (s : Settings) × (t : List ℕ) × (b ≡ 0 ∷ 1 ∷ (settings-bytes s ++ t)) × Settings-fit s
 
 abbrev pub File-faulty : List ℕ → Fault → Type 0
 File-faulty b = Settings-faulty b (Events-faulty (drop 10 b))
 
 abbrev pub Read-refused : List ℕ → ReadError → Type 0
 Read-refused b (read.Faulty f) = File-faulty b f
-Read-refused b read.NoMemory = Unit {0}
+Read-refused b read.NoMemory = Passes-settings b × Wants-memory (drop 10 b)
 
 -- the event at i is the first that does not fit
 abbrev pub Unfit-at : List Call → ℕ → Type 0

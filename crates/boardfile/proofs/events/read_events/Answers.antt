@@ -10,7 +10,8 @@ use Rattle.std.specs.Joined.{joined}
 use Rattle.std.proofs.shelf.Lists.{take-rest, length-push, length-append, length-drop}
 use Rattle.boardfile.specs.Layout.{event-bytes}
 use Rattle.boardfile.specs.Faults.{count-of, Has-events}
-use Rattle.boardfile.proofs.Records.{after-count, events-more, events-all, fit-more}
+use Rattle.std.proofs.shelf.Results.{err-from-errBy}
+use Rattle.boardfile.proofs.Records.{after-count, events-more, events-all, fewer, fit-more}
 use Rattle.boardfile.proofs.Unique.{events-length, none-past}
 use Rattle.boardfile.proofs.events.read_events.Needs as need
 
@@ -24,6 +25,17 @@ returns-in-rest-take-event c =
     let none = c .in-rest-take-event .ensures tt in
     rw (c .fault-in-rest-take-event .ensures)
     (inr (search needs, inr (search needs, inr (search needs, inl (λ p. none-past b (p .0) _ _ _ (p .1) here none (search needs), (_, _, here, none, refl))))))
+
+pub returns-in-Break-push : need.returns-in-Break-push
+returns-in-Break-push c =
+    let b = c .args .bytes .now in
+    let es = vec-items (c .loop-index .events) in
+    let e = c .in-Some .event in
+    let q = c .in-Some .ensures tt in
+    let here : Has-events b (c .loop-index .index + 1) (c .in-Some .more .now) =
+    (es ++ e ∷ [], length-push es e ∙ ap (λ n. n + 1) (c .loop-index .inv .1), fit-more es e (c .loop-index .inv .2) (q .0), events-more (drop 2 b) es e _ _ (c .loop-index .inv .0) (q .1)) in
+    let p = err-from-errBy (c .from-residual .result) (c .from-residual .ensures .1) in
+    rw (p .1, p .2) (record { counted = search needs; allowed = search needs; whole = search needs; some = search needs; event = fewer b _ 1 _ (omega arith) here })
 
 pub loop-index-again : need.loop-index-again
 loop-index-again c =
