@@ -171,8 +171,6 @@ pub(crate) fn read_settings(bytes: &[u8]) -> Result<(Settings, &[u8]), Fault>
     let Some((settings, rest)) = take_settings(record) else {
         return Err(fault(FaultKind::Unfit));
     };
-    match check(settings) {
-        Ok(()) => Ok((settings, rest)),
-        Err(fault) => Err(fault),
-    }
+    check(settings)?;
+    Ok((settings, rest))
 }
