@@ -10,6 +10,9 @@ ghost use Rattle.boardfile.specs.Faults.{No-event};
 use calls::call::Call;
 use calls::call::Order;
 
+// The bytes of a record.
+pub(crate) const LEN: usize = 6;
+
 // The event of a record's six bytes, if they are the layout of one that fits.
 fn decode(kind: u8, who: u8, order_kind: u8, high: u8, low: u8, value: u8) -> Option<Call>
     ensures { λ r. ⌜ BySome r ((e : Call) → Event-fits e → kind ∷ who ∷ «order_kind» ∷ high ∷ low ∷ value ∷ [] ≡ event-bytes e → ⊥) (λ e. Event-fits e × (kind ∷ who ∷ «order_kind» ∷ high ∷ low ∷ value ∷ [] ≡ event-bytes e)) ⌝ }
@@ -50,7 +53,7 @@ pub(crate) fn take_event(bytes: &[u8]) -> Option<(Call, &[u8])>
     Some((event, rest))
 }
 
-pub(crate) fn encode(event: Call) -> [u8; 6]
+pub(crate) fn encode(event: Call) -> [u8; LEN]
     ensures { λ r. ⌜ r ≡ event-bytes event ⌝ }
 {
     match event {

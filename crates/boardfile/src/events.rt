@@ -7,11 +7,13 @@ ghost use Rattle.std.specs.Of.Vec.{vec-items};
 ghost use Rattle.boardfile.specs.Layout.{events-bytes};
 ghost use Rattle.boardfile.specs.Fits.{Events-fit};
 ghost use Rattle.boardfile.specs.Faults.{Events-refused};
+use crate::event;
 use crate::event::take_event;
 use crate::fault::Fault;
 use crate::fault::FaultKind;
 use crate::fault::ReadError;
 use crate::fault::ReadErrorFromRefused;
+use crate::parts::MOST_EVENTS;
 use calls::call::Call;
 use std::alloc::Global;
 
@@ -32,10 +34,10 @@ pub(crate) fn read_events(heap: Global, bytes: &[u8]) -> Result<Vec<Call>, ReadE
         return Err(fault(FaultKind::Missing, 0));
     };
     let count = u16::from_be_bytes([*high, *low]);
-    if count > 4096 {
+    if count > MOST_EVENTS {
         return Err(fault(FaultKind::Count, 0));
     }
-    let whole = records.len() / 6;
+    let whole = records.len() / event::LEN;
     if whole < count as usize {
         return Err(fault(FaultKind::Missing, whole as u16));
     }

@@ -33,6 +33,9 @@ pub struct Settings {
     pub device: DeviceKind,
 }
 
+// The most events that a board file can have.
+pub const MOST_EVENTS: u16 = 4096;
+
 #[derive(Drop)]
 pub struct BoardFile {
     pub settings: Settings,

@@ -18,6 +18,9 @@ use crate::parts::LineKind;
 use crate::parts::PolicyKind;
 use crate::parts::Settings;
 
+// The bytes of a record.
+const LEN: usize = 8;
+
 fn encode_line(kind: LineKind) -> u8
     ensures { λ r. ⌜ r ≡ line-byte kind ⌝ }
 {
@@ -36,7 +39,7 @@ fn encode_device(kind: DeviceKind) -> u8
     }
 }
 
-pub(crate) fn encode(settings: Settings) -> [u8; 8]
+pub(crate) fn encode(settings: Settings) -> [u8; LEN]
     ensures { λ r. ⌜ r ≡ settings-bytes settings ⌝ }
 {
     let Settings {
@@ -165,7 +168,7 @@ pub(crate) fn read_settings(bytes: &[u8]) -> Result<(Settings, &[u8]), Fault>
     if u16::from_be_bytes([*high, *low]) != 1 {
         return Err(fault(FaultKind::Count));
     }
-    if record.len() < 8 {
+    if record.len() < LEN {
         return Err(fault(FaultKind::Missing));
     }
     let Some((settings, rest)) = take_settings(record) else {

@@ -19,9 +19,15 @@ use crate::fault::FaultKind;
 use crate::fault::WriteError;
 use crate::fault::WriteErrorFromFault;
 use crate::parts::BoardFile;
+use crate::parts::MOST_EVENTS;
 use crate::parts::Settings;
 use crate::settings;
 use calls::call::Call;
+
+// The bytes of a count, and those of the first section.
+const COUNT: usize = 2;
+
+const FIRST_SECTION: usize = 10;
 
 // Writes an event's record at the start of the buffer.
 fn put_event(event: Call, buf: &mut [u8])
@@ -29,7 +35,7 @@ fn put_event(event: Call, buf: &mut [u8])
     ensures { λ _. ⌜ now (buf .exit) ≡ event-bytes event ++ drop 6 (now (buf .entry)) ⌝ }
 {
     let record = event::encode(event);
-    buf[0..6].copy_from_slice(&record);
+    buf[0..event::LEN].copy_from_slice(&record);
 }
 
 // Writes the records of the events, one after another.
@@ -38,7 +44,7 @@ fn put_records(events: &[Call], buf: &mut [u8])
     ensures { λ _. ⌜ now (buf .exit) ≡ joined event-bytes (now (events .entry)) ++ drop (6 * length (now (events .entry))) (now (buf .entry)) ⌝ }
 {
     for (index, event) in events.iter().enumerate() {
-        put_event(*event, &mut buf[6 * index..]);
+        put_event(*event, &mut buf[event::LEN * index..]);
     }
 }
 
@@ -51,7 +57,7 @@ fn put_events(events: &[Call], buf: &mut [u8])
     let [high, low] = (events.len() as u16).to_be_bytes();
     buf[0] = high;
     buf[1] = low;
-    put_records(events, &mut buf[2..]);
+    put_records(events, &mut buf[COUNT..]);
 }
 
 // Writes the settings section at the start of the buffer.
@@ -62,7 +68,7 @@ fn put_settings(settings: Settings, buf: &mut [u8])
     let record = settings::encode(settings);
     buf[0] = 0;
     buf[1] = 1;
-    buf[2..10].copy_from_slice(&record);
+    buf[COUNT..FIRST_SECTION].copy_from_slice(&record);
 }
 
 fn fits(event: Call) -> bool
@@ -91,7 +97,7 @@ fn check(file: &BoardFile) -> Result<(), Fault>
     ensures { λ r. ⌜ Cases r (λ _. Fits (now (file .entry))) (Unwritable (now (file .entry))) ⌝ }
 {
     settings::check(file.settings)?;
-    if file.events.len() > 4096 {
+    if file.events.len() > MOST_EVENTS as usize {
         return Err(Fault {
             kind: FaultKind::Count,
             place: (2, 0),
@@ -111,7 +117,7 @@ fn measure(file: &BoardFile) -> Result<usize, Fault>
     ensures { λ r. ⌜ Cases r (λ n. Measures (now (file .entry)) n) (Unwritable (now (file .entry))) ⌝ }
 {
     check(file)?;
-    Ok(12 + 6 * file.events.len())
+    Ok(FIRST_SECTION + COUNT + event::LEN * file.events.len())
 }
 
 // Writes the file at the start of the buffer, and answers its length.
@@ -124,6 +130,6 @@ pub fn write(file: &BoardFile, buf: &mut [u8]) -> Result<usize, WriteError>
         return Err(WriteError::TooSmall);
     }
     put_settings(file.settings, buf);
-    put_events(file.events.as_slice(), &mut buf[10..]);
+    put_events(file.events.as_slice(), &mut buf[FIRST_SECTION..]);
     Ok(len)
 }
