@@ -52,23 +52,29 @@ fn settings_count(rt: LibcRuntime) -> Result<(), Fail> {
     refused(heap, &[0, 1, 3, 2, 0, 0, 0, 0, 0, 1], 18, (1, 0))
 }
 
+// Settings records and their faults. What does not fit comes before what is out of range, and that in its order.
+const SETTINGS: [([u8; 8], u8); 13] = [
+    ([3, 2, 2, 2, 0, 0, 0, 1], 23),
+    ([3, 2, 2, 0, 2, 0, 0, 1], 23),
+    ([3, 2, 2, 0, 0, 1, 0, 1], 23),
+    ([3, 2, 2, 0, 0, 0, 1, 1], 23),
+    ([3, 2, 2, 0, 0, 0, 0, 2], 23),
+    ([0, 0, 0, 0, 0, 0, 0, 2], 23),
+    ([0, 0, 0, 0, 0, 0, 0, 1], 16),
+    ([33, 0, 0, 0, 0, 0, 0, 1], 16),
+    ([3, 0, 0, 0, 0, 0, 0, 1], 17),
+    ([3, 4, 0, 0, 0, 0, 0, 1], 17),
+    ([3, 2, 0, 1, 0, 0, 0, 1], 17),
+    ([3, 2, 0, 0, 0, 0, 0, 1], 18),
+    ([32, 32, 0, 1, 1, 255, 255, 0], 18),
+];
+
 #[test]
 fn settings_records(rt: LibcRuntime) -> Result<(), Fail> {
-    let heap = rt.alloc();
-    settings(heap, [3, 2, 2, 2, 0, 0, 0, 1], 23)?;
-    settings(heap, [3, 2, 2, 0, 2, 0, 0, 1], 23)?;
-    settings(heap, [3, 2, 2, 0, 0, 1, 0, 1], 23)?;
-    settings(heap, [3, 2, 2, 0, 0, 0, 1, 1], 23)?;
-    settings(heap, [3, 2, 2, 0, 0, 0, 0, 2], 23)?;
-    // What does not fit comes before what is out of range, and that in its order.
-    settings(heap, [0, 0, 0, 0, 0, 0, 0, 2], 23)?;
-    settings(heap, [0, 0, 0, 0, 0, 0, 0, 1], 16)?;
-    settings(heap, [33, 0, 0, 0, 0, 0, 0, 1], 16)?;
-    settings(heap, [3, 0, 0, 0, 0, 0, 0, 1], 17)?;
-    settings(heap, [3, 4, 0, 0, 0, 0, 0, 1], 17)?;
-    settings(heap, [3, 2, 0, 1, 0, 0, 0, 1], 17)?;
-    settings(heap, [3, 2, 0, 0, 0, 0, 0, 1], 18)?;
-    settings(heap, [32, 32, 0, 1, 1, 255, 255, 0], 18)
+    for (record, number) in &SETTINGS {
+        settings(rt.alloc(), *record, *number)?;
+    }
+    Ok(())
 }
 
 #[test]
@@ -88,19 +94,26 @@ fn events_count(rt: LibcRuntime) -> Result<(), Fail> {
     events(heap, &[0, 2, 7, 0, 0, 0, 0, 0, 7, 1, 0, 0, 0, 0, 7], 23, 1)
 }
 
+// Events sections of one record that does not fit.
+const UNFIT: [[u8; 8]; 12] = [
+    [0, 1, 10, 0, 0, 0, 0, 0],
+    [0, 1, 255, 0, 0, 0, 0, 0],
+    [0, 1, 0, 0, 1, 0, 0, 0],
+    [0, 1, 1, 0, 0, 1, 0, 0],
+    [0, 1, 2, 0, 0, 0, 1, 0],
+    [0, 1, 4, 0, 0, 0, 0, 1],
+    [0, 1, 5, 1, 0, 0, 0, 0],
+    [0, 1, 6, 2, 0, 0, 0, 0],
+    [0, 1, 6, 0, 1, 0, 0, 9],
+    [0, 1, 7, 1, 0, 0, 0, 0],
+    [0, 1, 8, 1, 0, 0, 0, 1],
+    [0, 1, 9, 1, 0, 0, 0, 0],
+];
+
 #[test]
 fn events_records(rt: LibcRuntime) -> Result<(), Fail> {
-    let heap = rt.alloc();
-    events(heap, &[0, 1, 10, 0, 0, 0, 0, 0], 23, 0)?;
-    events(heap, &[0, 1, 255, 0, 0, 0, 0, 0], 23, 0)?;
-    events(heap, &[0, 1, 0, 0, 1, 0, 0, 0], 23, 0)?;
-    events(heap, &[0, 1, 1, 0, 0, 1, 0, 0], 23, 0)?;
-    events(heap, &[0, 1, 2, 0, 0, 0, 1, 0], 23, 0)?;
-    events(heap, &[0, 1, 4, 0, 0, 0, 0, 1], 23, 0)?;
-    events(heap, &[0, 1, 5, 1, 0, 0, 0, 0], 23, 0)?;
-    events(heap, &[0, 1, 6, 2, 0, 0, 0, 0], 23, 0)?;
-    events(heap, &[0, 1, 6, 0, 1, 0, 0, 9], 23, 0)?;
-    events(heap, &[0, 1, 7, 1, 0, 0, 0, 0], 23, 0)?;
-    events(heap, &[0, 1, 8, 1, 0, 0, 0, 1], 23, 0)?;
-    events(heap, &[0, 1, 9, 1, 0, 0, 0, 0], 23, 0)
+    for section in &UNFIT {
+        events(rt.alloc(), section, 23, 0)?;
+    }
+    Ok(())
 }

@@ -43,40 +43,53 @@ fn example(heap: Global) -> Result<Vec<u8>, AllocError> {
     Ok(bytes)
 }
 
-#[test]
-fn reads_its_settings(rt: LibcRuntime) -> Result<(), Fail> {
-    let heap = rt.alloc();
-    let file = read(heap, example(heap)?.as_slice())?;
-    let expected = Settings {
-        clients: 3,
-        places: 2,
-        tasks: 2,
-        line: LineKind::FirstCome,
-        policy: PolicyKind::Immediate,
-        device: DeviceKind::Converter,
-    };
-    check_eq(file.settings, expected)
-}
+const SETTINGS: Settings = Settings {
+    clients: 3,
+    places: 2,
+    tasks: 2,
+    line: LineKind::FirstCome,
+    policy: PolicyKind::Immediate,
+    device: DeviceKind::Converter,
+};
+
+const CALLS: [Call; 22] = [
+    Call::Request { client: 0 },
+    Call::Request { client: 1 },
+    Call::Ready,
+    Call::Run,
+    Call::Begin {
+        client: 0,
+        order: Order {
+            kind: 0,
+            address: 5,
+            value: 0,
+        },
+    },
+    Call::Release { client: 0 },
+    Call::Done { mark: 0, byte: 9 },
+    Call::Collect { client: 0 },
+    Call::Request { client: 0 },
+    Call::Request { client: 2 },
+    Call::Release { client: 0 },
+    Call::Run,
+    Call::Release { client: 1 },
+    Call::Tick,
+    Call::Run,
+    Call::Release { client: 0 },
+    Call::Immediate { client: 2 },
+    Call::Request { client: 2 },
+    Call::Ready,
+    Call::Ready,
+    Call::Run,
+    Call::Release { client: 1 },
+];
 
 #[test]
-fn reads_its_events(rt: LibcRuntime) -> Result<(), Fail> {
+fn reads_its_parts(rt: LibcRuntime) -> Result<(), Fail> {
     let heap = rt.alloc();
     let file = read(heap, example(heap)?.as_slice())?;
-    let order = Order {
-        kind: 0,
-        address: 5,
-        value: 0,
-    };
-    check(file.events.len() == 22)?;
-    check_eq(file.events[1], Call::Request { client: 1 })?;
-    check_eq(file.events[2], Call::Ready)?;
-    check_eq(file.events[4], Call::Begin { client: 0, order })?;
-    check_eq(file.events[6], Call::Done { mark: 0, byte: 9 })?;
-    check_eq(file.events[7], Call::Collect { client: 0 })?;
-    check_eq(file.events[13], Call::Tick)?;
-    check_eq(file.events[16], Call::Immediate { client: 2 })?;
-    check_eq(file.events[20], Call::Run)?;
-    check_eq(file.events[21], Call::Release { client: 1 })
+    check(file.settings == SETTINGS)?;
+    check(file.events.as_slice() == &CALLS[0..22])
 }
 
 #[test]
