@@ -78,16 +78,20 @@ clean-settings s t later h c =
     clean-check _ _ _ (omega arith) (clean-check _ _ _ refl (clean-check _ _ _ (omega arith) (clean-check _ _ _ (s, t, refl, tt)
     (λ f x. clean-settings-checks s later h c f (subst (λ (s′ : Settings). Settings-checks s′ later f) (sym (same-settings s (x .0) t (x .1) (x .2) .0)) (x .3))))))
 
+-- what comes after the tests of the settings, put for what came there
+pub checks-map : (s : Settings) (later later′ : Fault → Type 0) (f : Fault) → (later f → later′ f) → Settings-checks s later f → Settings-checks s later′ f
+checks-map s later later′ f m (inl a) = inl a
+checks-map s later later′ f m (inr (p, inl a)) = inr (p, inl a)
+checks-map s later later′ f m (inr (p, inr (q, inl a))) = inr (p, inr (q, inl a))
+checks-map s later later′ f m (inr (p, inr (q, inr (r, a)))) = inr (p, inr (q, inr (r, m a)))
+
 -- a fault of the settings is one of the file
 pub settings-fault : (b : List ℕ) (later : Fault → Type 0) (f : Fault) → Settings-faulty b No-fault f → Settings-faulty b later f
 settings-fault b later f (inl a) = inl a
 settings-fault b later f (inr (p, inl a)) = inr (p, inl a)
 settings-fault b later f (inr (p, inr (q, inl a))) = inr (p, inr (q, inl a))
 settings-fault b later f (inr (p, inr (q, inr (r, inl a)))) = inr (p, inr (q, inr (r, inl a)))
-settings-fault b later f (inr (p, inr (q, inr (r, inr (u, (s, t, e, inl a)))))) = inr (p, inr (q, inr (r, inr (u, (s, t, e, inl a)))))
-settings-fault b later f (inr (p, inr (q, inr (r, inr (u, (s, t, e, inr (v, inl a))))))) = inr (p, inr (q, inr (r, inr (u, (s, t, e, inr (v, inl a))))))
-settings-fault b later f (inr (p, inr (q, inr (r, inr (u, (s, t, e, inr (v, inr (w, inl a)))))))) = inr (p, inr (q, inr (r, inr (u, (s, t, e, inr (v, inr (w, inl a)))))))
-settings-fault b later f (inr (p, inr (q, inr (r, inr (u, (s, t, e, inr (v, inr (w, inr (x, a))))))))) = absurd a
+settings-fault b later f (inr (p, inr (q, inr (r, inr (u, (s, t, e, a)))))) = inr (p, inr (q, inr (r, inr (u, (s, t, e, checks-map s No-fault later f (λ x. absurd x) a)))))
 
 -- a fault behind settings that fit is one of the file
 pub later-fault : (b : List ℕ) (s : Settings) (t : List ℕ) (later : Fault → Type 0) (f : Fault) → b ≡ 0 ∷ 1 ∷ (settings-bytes s ++ t) → Settings-fit s → later f → Settings-faulty b later f

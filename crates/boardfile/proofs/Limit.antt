@@ -18,6 +18,7 @@ use Rattle.boardfile.specs.Layout.{settings-bytes, event-bytes}
 use Rattle.boardfile.specs.Fits.{Event-fits, Events-fit}
 use Rattle.boardfile.specs.Faults.{At, count-of, Has-settings, Has-events, No-event, First-unfit, Settings-checks, Settings-faulty, Events-faulty, File-faulty, Passes-settings, Wants-memory, Read-refused}
 use Rattle.boardfile.specs.Reads.{Reads}
+use Rattle.boardfile.proofs.First.{checks-map}
 use Rattle.boardfile.proofs.Lends.{file-length}
 use Rattle.boardfile.proofs.Records.{fewer}
 use Rattle.boardfile.proofs.Unique.{settings-length, event-length, events-length}
@@ -51,12 +52,6 @@ settings-back u z P h (s, t, e, p) =
     let d = length-drop 2 u in
     let q = prefix (drop 2 u) z (settings-bytes s) t (sym (behind u z (omega arith)) ∙ e) (omega arith) in
     (s, q .0, q .1, p)
-
-checks-map : (s : Settings) (later later′ : Fault → Type 0) (f : Fault) → (later f → later′ f) → Settings-checks s later f → Settings-checks s later′ f
-checks-map s later later′ f m (inl a) = inl a
-checks-map s later later′ f m (inr (p, inl a)) = inr (p, inl a)
-checks-map s later later′ f m (inr (p, inr (q, inl a))) = inr (p, inr (q, inl a))
-checks-map s later later′ f m (inr (p, inr (q, inr (r, a)))) = inr (p, inr (q, inr (r, m a)))
 
 settings-longer : (u z : List ℕ) (later later′ : Fault → Type 0) (f : Fault) → 10 ≤ length u → (later f → later′ f) → Settings-faulty u later f → Settings-faulty (u ++ z) later′ f
 settings-longer u z later later′ f h m (inl a) = absurd (a .0 (omega arith))

@@ -1,6 +1,6 @@
 // What is wrong with a board file, and where.
 ghost use mathlib.Core.Path.{_≡_};
-ghost use Rattle.boardfile.specs.Numbers.{fault-number, Only-kind};
+ghost use Rattle.boardfile.specs.Numbers.{fault-number, Only-kind, write-number};
 ghost use Rattle.boardfile.specs.declared.fault.ReadError.the-variants as read;
 ghost use Rattle.boardfile.specs.declared.fault.WriteError.the-variants as write;
 use calls::refusal::Refusal;
@@ -74,6 +74,17 @@ pub impl<T: Drop> From<Refused<T>> for ReadError as ReadErrorFromRefused {
 pub enum WriteError {
     Faulty(Fault),
     TooSmall,
+}
+
+impl WriteError {
+    pub fn number(self) -> u8
+        ensures { λ r. ⌜ r ≡ write-number self ⌝ }
+    {
+        match self {
+            WriteError::Faulty(fault) => fault.kind.number(),
+            WriteError::TooSmall => 25,
+        }
+    }
 }
 
 pub impl From<Fault> for WriteError as WriteErrorFromFault {

@@ -50,6 +50,7 @@ fn refuses_a_small_buffer(rt: LibcRuntime) -> Result<(), Fail> {
     let file = dones(rt.alloc(), 1, 1)?;
     let mut buf = [9; 17];
     check_eq(write(&file, &mut buf), Err(WriteError::TooSmall))?;
+    check(WriteError::TooSmall.number() == 25)?;
     check_eq(buf, [9; 17])
 }
 
