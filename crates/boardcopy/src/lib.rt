@@ -1,4 +1,6 @@
 // Reading and writing a board file undo each other. Both laws follow from the contracts of the reader and the writer alone.
+#![tactic(auto)]
+
 ghost use Rattle.boardcopy.specs.Copies.{Rewrites, Rereads};
 ghost use Rattle.boardcopy.specs.declared.CopyError.TheVariants.{Unread, Unwritten};
 ghost use Rattle.std.specs.Prelude.{◌≡◌};

@@ -1,4 +1,6 @@
 // The board file: its parts, its reader and its writer.
+#![tactic(auto)]
+
 mod event;
 mod events;
 pub mod fault;

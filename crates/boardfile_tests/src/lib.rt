@@ -1,4 +1,6 @@
 // Tests of the board file's reader and writer.
+#![tactic(auto)]
+
 #[cfg(test)]
 mod cases;
 #[cfg(test)]

@@ -5,7 +5,6 @@
 use Rattle.std.specs.Prelude.{ℕ, Bool, true, false, Some, None, Option}
 use Rattle.calls.specs.declared.answer.Answer.{Answer}
 use Rattle.calls.specs.declared.answer.Answer.TheVariants.{Okay, Granted, Ran, Collected, Refused}
-use Rattle.calls.specs.declared.answer.Outcome.{Outcome}
 use Rattle.calls.specs.declared.answer.Outcome.TheVariants.{Value, Failed}
 use Rattle.calls.specs.Refusals.{refusal_number, refusal_value}
 

@@ -2,7 +2,11 @@
 -- refusal_number: the number of the question at the door that was answered 'no'.
 -- refusal_value: what is told beside it, the device's verdict on a rejected order.
 -- OnlyRefusal: no other refusal has its number and value.
-use Rattle.std.specs.Prelude.{◌≡◌, ℕ, Some, None, Option}
+-- refusal_eq: whether two refusals have the same number and value; refusal_eq_decides: then they are equal.
+use Rattle.std.specs.Prelude.{◌≡◌, ℕ, Bool, ◌&&◌, ◌==◌, Decides, Some, None, Option}
+use Rattle.std.specs.Option.{option_eq}
+use Rattle.std.proofs.Common.{arith}
+use Rattle.std.proofs.lemmas.Grind.{common_steps}
 use Rattle.calls.specs.declared.refusal.Refusal.{Refusal}
 use Rattle.calls.specs.declared.refusal.Refusal.TheVariants.{NoSuchClient, AlreadyRequested, LineFull, NotFreeAtOnce, NotOwner, TransferNotQuiet, OrderRejected, NoTransfer, TransferNotFinished, PowerNotChanging, NoTransferRunning, NoSuchTask, GrantTask, AlreadyPending, NoTaskPending, ClientsOutOfRange, PlacesOutOfRange, TasksOutOfRange, LineNotFresh, DeviceNotAtRest}
 
@@ -52,3 +56,9 @@ refusal_value DeviceNotAtRest = None
 
 abbrev pub OnlyRefusal : Refusal → Type 0
 OnlyRefusal r = (other : Refusal) → refusal_number other ≡ refusal_number r → refusal_value other ≡ refusal_value r → other ≡ r
+
+abbrev pub refusal_eq : Refusal → Refusal → Bool
+refusal_eq x y = refusal_number x == refusal_number y && option_eq (λ a b. a == b) (refusal_value x) (refusal_value y)
+
+pub refusal_eq_decides : (x y : Refusal) → Decides (refusal_eq x y) (x ≡ y)
+refusal_eq_decides x y = grind (arith, common_steps)

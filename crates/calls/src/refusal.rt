@@ -1,9 +1,7 @@
 // The refusals of the door.
 ghost use Rattle.std.specs.Prelude.{◌≡◌, Decides};
-ghost use Rattle.calls.specs.Refusals.{refusal_number, refusal_value, OnlyRefusal};
-ghost use Rattle.std.specs.Cmp.Rules.{comparing};
-ghost use Rattle.std.proofs.Common.{rules};
 ghost use Rattle.std.specs.Cmp as Keys;
+ghost use Rattle.calls.specs.Refusals.{refusal_number, refusal_value, OnlyRefusal, refusal_eq, refusal_eq_decides};
 
 // The first question at the door that was answered 'no'.
 #[derive(Clone, Copy, Debug)]
@@ -78,15 +76,18 @@ impl Refusal {
 }
 
 impl PartialEq for Refusal {
-    ghost equals = { λ x y r. Decides r (x ≡ y) };
+    ghost eq = { refusal_eq };
 
-    ghost laws = { Keys.partial_equiv_from_equiv (Prim.search (comparing, rules)) };
+    ghost laws = { Keys.partial_equiv_from_equiv (Keys.decided refusal_eq refusal_eq_decides) };
 
-    fn eq(&self, other: &Refusal) -> bool {
+    fn eq(&self, other: &Refusal) -> bool
+        ensures answer { result ≡ refusal_eq self.now other.now }
+        ensures equals { Decides result (self.now ≡ other.now) }
+    {
         self.number() == other.number() && self.value() == other.value()
     }
 }
 
 impl Eq for Refusal {
-    ghost laws = { Prim.search (comparing, rules) };
+    ghost laws = { Keys.decided refusal_eq refusal_eq_decides };
 }

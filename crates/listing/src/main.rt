@@ -1,4 +1,6 @@
 // Lists the board file on standard input.
+#![tactic(auto)]
+
 use std::io::Read;
 use words::listing::list;
 

@@ -1,4 +1,6 @@
 // The once-pending list, and the keys that can be pending.
+#![tactic(auto)]
+
 pub mod client;
 pub mod key;
 mod links;

@@ -1,4 +1,6 @@
 // Board files in words.
+#![tactic(auto)]
+
 pub mod call;
 pub mod fault;
 pub mod listing;
