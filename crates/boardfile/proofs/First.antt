@@ -1,11 +1,10 @@
 -- The first fault of bytes: there is at most one, and none where the bytes read as parts. Assumes nothing.
-use Rattle.std.proofs.Common.{◌≡◌, ℕ, ◌+◌, ◌-◌, ◌*◌, ◌/◌, ◌<◌, ◌≤◌, ◌⊎◌, List, [], ◌∷◌, ◌++◌, length, drop, Ok, Err, vec_items, Result, sym, refl, ap, ◌∙◌, subst, inl, inr, arith}
+use Rattle.std.proofs.Common.{◌≡◌, ℕ, ◌+◌, ◌≤◌, ◌⊎◌, List, [], ◌∷◌, ◌++◌, length, drop, sym, refl, ap, ◌∙◌, subst, inl, inr, arith}
 use Rattle.std.specs.List.{flat_map}
 use Rattle.std.proofs.lemmas.List.{drop_at, append-nil, length-append}
 use Rattle.std.proofs.lemmas.Bool.{cases_order}
 use Rattle.calls.specs.declared.call.Call.{Call}
 use Rattle.boardfile.specs.declared.parts.Settings.{Settings}
-use Rattle.boardfile.specs.declared.parts.BoardFile.{BoardFile}
 use Rattle.boardfile.specs.declared.fault.FaultKind.{FaultKind}
 use Rattle.boardfile.specs.declared.fault.FaultKind.TheVariants.{Unfit}
 use Rattle.boardfile.specs.declared.fault.Fault.{Fault}
@@ -13,8 +12,8 @@ use Rattle.boardfile.specs.declared.fault.ReadError.{ReadError}
 use Rattle.boardfile.specs.declared.fault.ReadError.TheVariants.{Faulty, NoMemory}
 use Rattle.boardfile.specs.Layout.{settings_bytes, event_bytes, events_bytes, file_bytes}
 use Rattle.boardfile.specs.Fits.{SettingsFit, EventsFit, FileFits}
-use Rattle.boardfile.specs.Faults.{Check, NoFault, At, HasSettings, FirstUnfit, SettingsChecks, SettingsFaulty, EventsFaulty, FileFaulty, ReadRefused, EventsRefused}
-use Rattle.boardfile.specs.Reads.{Reads, Gives, Refuses}
+use Rattle.boardfile.specs.Faults.{Check, NoFault, At, FirstUnfit, SettingsChecks, SettingsFaulty, EventsFaulty, FileFaulty, ReadRefused, EventsRefused}
+use Rattle.boardfile.specs.Reads.{Reads}
 use Rattle.boardfile.proofs.Unique.{two_bytes, same_settings, same_file, settings_length, events_length, none_past}
 
 -- at most one fault is meant

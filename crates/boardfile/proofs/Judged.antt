@@ -1,5 +1,5 @@
 -- All that a reader keeps, from what it answers. Assumes nothing.
-use Rattle.std.proofs.Common.{◌≡◌, ℕ, List, Ok, Err, vec_items, sym, ◌∙◌, arith}
+use Rattle.std.proofs.Common.{ℕ, List, Ok, Err, vec_items, sym, ◌∙◌, arith}
 use Rattle.boardfile.specs.declared.parts.BoardFile.{BoardFile}
 use Rattle.boardfile.specs.declared.fault.ReadError.{ReadError}
 use Rattle.boardfile.specs.Faults.{ReadRefused}

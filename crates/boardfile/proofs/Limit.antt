@@ -1,17 +1,16 @@
 -- No file is longer than 24,588 bytes, so one byte more of an input settles how all of it reads. Assumes nothing.
-use Rattle.std.proofs.Common.{◌≡◌, ℕ, ◌+◌, ◌-◌, ◌*◌, ◌/◌, ◌<◌, ◌≤◌, ◌⊎◌, List, [], ◌∷◌, ◌++◌, length, get_or, take, drop, sym, refl, ap, ◌∙◌, subst, inl, inr, arith}
+use Rattle.std.proofs.Common.{◌≡◌, ℕ, ◌+◌, ◌*◌, ◌<◌, ◌≤◌, ◌⊎◌, List, [], ◌∷◌, ◌++◌, length, get_or, take, drop, sym, refl, ap, ◌∙◌, subst, inl, inr, arith}
 use Rattle.std.specs.List.{flat_map}
-use Rattle.std.proofs.lemmas.List.{append_assoc, append-nil, drop-append-le, get_or_append_left, length-append, length-drop, length-take-le, take_all, take-append-drop, length-take}
+use Rattle.std.proofs.lemmas.List.{append_assoc, drop-append-le, get_or_append_left, length-append, length-drop, length-take-le, take_all, take-append-drop}
 use Rattle.std.proofs.lemmas.Bool.{cases_lt}
 use Rattle.calls.specs.declared.call.Call.{Call}
 use Rattle.boardfile.specs.declared.parts.Settings.{Settings}
 use Rattle.boardfile.specs.declared.fault.Fault.{Fault}
 use Rattle.boardfile.specs.declared.fault.ReadError.{ReadError}
 use Rattle.boardfile.specs.declared.fault.ReadError.TheVariants.{Faulty, NoMemory}
-use Rattle.boardfile.specs.declared.fault.FaultKind.TheVariants.{Trailing, Count}
+use Rattle.boardfile.specs.declared.fault.FaultKind.TheVariants.{Trailing}
 use Rattle.boardfile.specs.Layout.{settings_bytes, event_bytes}
-use Rattle.boardfile.specs.Fits.{EventFits, EventsFit}
-use Rattle.boardfile.specs.Faults.{At, count_of, HasSettings, HasEvents, NoEvent, FirstUnfit, SettingsChecks, SettingsFaulty, EventsFaulty, FileFaulty, PassesSettings, WantsMemory, ReadRefused}
+use Rattle.boardfile.specs.Faults.{count_of, HasSettings, HasEvents, NoEvent, FirstUnfit, SettingsFaulty, EventsFaulty, FileFaulty, PassesSettings, WantsMemory, ReadRefused}
 use Rattle.boardfile.specs.Reads.{Reads}
 use Rattle.boardfile.proofs.First.{checks_map}
 use Rattle.boardfile.proofs.Lends.{file_length}

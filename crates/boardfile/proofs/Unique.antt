@@ -1,5 +1,5 @@
 -- Bytes are the layout of one event, of one list of events and of one board's settings. Assumes nothing.
-use Rattle.std.proofs.Common.{◌≡◌, ℕ, ◌+◌, ◌*◌, ◌/◌, ◌%◌, ◌<◌, ◌≤◌, cond, eqb, List, [], ◌∷◌, ◌++◌, length, get_or, drop, sym, refl, ap, ◌∙◌, arith}
+use Rattle.std.proofs.Common.{◌≡◌, ℕ, ◌+◌, ◌*◌, ◌<◌, cond, eqb, List, [], ◌∷◌, ◌++◌, length, get_or, drop, sym, refl, ap, ◌∙◌, arith}
 use Rattle.std.specs.List.{flat_map}
 use Rattle.std.proofs.lemmas.List.{append_assoc, drop_at, length-append}
 use Rattle.calls.specs.declared.call.Call.{Call}
@@ -11,8 +11,8 @@ use Rattle.boardfile.specs.declared.parts.PolicyKind.{PolicyKind}
 use Rattle.boardfile.specs.declared.parts.PolicyKind.TheVariants as policy
 use Rattle.boardfile.specs.declared.parts.DeviceKind.{DeviceKind}
 use Rattle.boardfile.specs.declared.parts.DeviceKind.TheVariants.{Registers, Converter}
-use Rattle.boardfile.specs.Layout.{high, low, event_bytes, events_bytes, settings_bytes, policy_bytes, line_byte, device_byte, file_bytes}
-use Rattle.boardfile.specs.Fits.{EventFits, EventsFit}
+use Rattle.boardfile.specs.Layout.{high, low, event_bytes, settings_bytes, policy_bytes, line_byte, device_byte, file_bytes}
+use Rattle.boardfile.specs.Fits.{EventsFit}
 use Rattle.boardfile.specs.Faults.{HasEvents, NoEvent}
 
 pub two_bytes : (n : ℕ) → high n * 256 + low n ≡ n

@@ -18,4 +18,4 @@ returns c =
     let rest = take (length b - 8) (drop 8 b) in
     front 8 b h
     ∙ ap (λ (u : List ℕ). get_or b 0 0 ∷ get_or b 1 0 ∷ get_or b 2 0 ∷ u)
-    (decoded _ _ _ _ _ _ _ _ rest c.in-ok-decode-line.ensures c.in-ok-decode-policy.ensures c.in-ok-decode-device.ensures)
+    (decoded _ _ _ _ _ _ _ _ rest c.in_ok-decode_line.ensures c.in_ok-decode_policy.ensures c.in_ok-decode_device.ensures)

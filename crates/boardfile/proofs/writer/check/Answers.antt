@@ -5,6 +5,6 @@ use Rattle.boardfile.proofs.writer.check.Goals as goal
 
 pub returns-in-Some : goal.returns-in-Some
 returns-in-Some c =
-    let h = c.in-ok-check.ensures in
-    let u : UnfitAt (vec_items c.args.file.now.events) c.in-Some.index = rw c.as-slice.ensures.value at c.in-Some.ensures in
+    let h = c.in_ok-check.ensures in
+    let u : UnfitAt (vec_items c.args.file.now.events) c.in-Some.index = rw c.as_slice.ensures.value at c.in-Some.ensures in
     inr (h.0, inr (h.1, inr (h.2, inr (search rules, inl (not_all_fit _ _ u, (_, u, refl))))))

@@ -6,4 +6,4 @@ pub returns : goal.returns
 returns c =
     let l = file_length c.args.file.now.settings (vec_items c.args.file.now.events) in
     let n : c.len.result ≡ length (vec_items c.args.file.now.events) = search rules in
-    (c.in-ok-check.ensures, omega arith, omega arith)
+    (c.in_ok-check.ensures, omega arith, omega arith)

@@ -9,13 +9,13 @@ returns c =
     let s = c.args.file.now.settings in
     let es = vec_items c.args.file.now.events in
     let old = c.args.buf.now in
-    let n = c.in-ok-len.len in
-    let m = c.in-ok-len.ensures in
+    let n = c.in_ok-len.len in
+    let m = c.in_ok-len.ensures in
     let l = file_length s es in
-    let q = rw c.as-slice.ensures.value at c.put-events.ensures in
+    let q = rw c.as_slice.ensures.value at c.put_events.ensures in
     let k : 12 + 6 * length es ≡ n = omega arith in
-    let after = file_put s es old c.put-settings.new.buf c.put-events.new.buf c.put-settings.ensures q ∙ ap (λ (j : ℕ). file_bytes s es ++ drop j old) k in
+    let after = file_put s es old c.put_settings.new.buf c.put_events.new.buf c.put_settings.ensures q ∙ ap (λ (j : ℕ). file_bytes s es ++ drop j old) k in
     record {
       answer = (m.0, m.1, search rules, after);
-      reads-back = (ap (λ (b : List ℕ). take n b) after ∙ take_at (file_bytes s es) (drop n old) n (sym m.1), m.0);
+      reads_back = (ap (λ (b : List ℕ). take n b) after ∙ take_at (file_bytes s es) (drop n old) n (sym m.1), m.0);
     }
