@@ -40,8 +40,8 @@ fn writes_high_byte_first(rt: HostRuntime) -> Result<(), Fail> {
     let file = dones(rt.alloc(), 1, 1)?;
     let mut buf = [9; 19];
     assert_eq!(rt; write(&file, &mut buf), Ok(18));
-    assert!(rt; &buf[0..10] == &[0, 1, 4, 4, 5, 1, 1, 1, 2, 0]);
-    assert!(rt; &buf[10..19] == &[0, 1, 6, 1, 0, 0, 0, 7, 9]);
+    assert!(rt; buf[0..10] == [0, 1, 4, 4, 5, 1, 1, 1, 2, 0]);
+    assert!(rt; buf[10..19] == [0, 1, 6, 1, 0, 0, 0, 7, 9]);
     Ok(())
 }
 

@@ -2,6 +2,7 @@
 #![tactic(auto)]
 
 use std::io::Read;
+use std::process::ExitCode;
 use words::listing::list;
 
 // One byte more than the longest board file has: what comes after it changes no listing.
@@ -17,12 +18,12 @@ fn run(rt: &HostRuntime) -> anyhow::Result<()> {
     Ok(())
 }
 
-fn main(rt: HostRuntime) -> anyhow::Result<()> {
+fn main(rt: HostRuntime) -> ExitCode {
     match run(&rt) {
-        Ok(()) => Ok(()),
+        Ok(()) => ExitCode::SUCCESS,
         Err(error) => {
             let _ = eprintln!(rt; "listing: {error}");
-            Err(error)
+            ExitCode::FAILURE
         }
     }
 }

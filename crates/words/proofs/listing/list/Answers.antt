@@ -16,13 +16,13 @@ pub returns-in-Ok : goal.returns-in-Ok
 returns-in-Ok c =
     let s = c.in-Ok.file.settings in
     let es = vec_items c.in-Ok.file.events in
-    let lists : (b : List ℕ) → Reads b s es → IfOk c.list-parts.result (λ text. Lists b (string_bytes text)) =
-    λ b r. IfOk-weaker c.list-parts.result (λ text. string_bytes text ≡ listing s es) (λ text. Lists b (string_bytes text)) (λ text t. inl (s, es, r, t)) c.list-parts.ensures in
+    let lists : (b : List ℕ) → Reads b s es → IfOk c.list_parts.result (λ text. Lists b (string_bytes text)) =
+    λ b r. IfOk-weaker c.list_parts.result (λ text. string_bytes text ≡ listing s es) (λ text. Lists b (string_bytes text)) (λ text t. inl (s, es, r, t)) c.list_parts.ensures in
     record { answer = lists _ c.in-Ok.ensures.answer; whole = λ input p. lists input (c.in-Ok.ensures.whole input p) }
 
 pub returns-in-Err : goal.returns-in-Err
 returns-in-Err c =
     let e = c.in-Err.error in
-    let lists : (b : List ℕ) → ReadRefused b e → IfOk c.list-error.result (λ text. Lists b (string_bytes text)) =
-    λ b r. IfOk-weaker c.list-error.result (λ text. Tells e (string_bytes text)) (λ text. Lists b (string_bytes text)) (λ text t. tells_fault b e (string_bytes text) r t) c.list-error.ensures in
+    let lists : (b : List ℕ) → ReadRefused b e → IfOk c.list_error.result (λ text. Lists b (string_bytes text)) =
+    λ b r. IfOk-weaker c.list_error.result (λ text. Tells e (string_bytes text)) (λ text. Lists b (string_bytes text)) (λ text t. tells_fault b e (string_bytes text) r t) c.list_error.ensures in
     record { answer = lists _ c.in-Err.ensures.answer; whole = λ input p. lists input (c.in-Err.ensures.whole input p) }
