@@ -23,14 +23,15 @@ at_most {head} {tail} {next} {len} {xs} s = length_below 255 xs s.once (linked_b
 pub chain_is : {head tail : ℕ} {next : List ℕ} {len : ℕ} {xs : List ℕ} → Stands head tail next len xs → chain head next ≡ xs
 chain_is {head} {tail} {next} {len} {xs} s = walk_linked next xs 255 head (at_most s) s.links
 
--- what a list carries, in the order of its fields
+-- what a list carries, by the names of its ghost fields
 abbrev pub Facts : ℕ → ℕ → List ℕ → ℕ → Type 0
-Facts head tail next len = Linked head next × (Distinct head next × (Ended head tail next × (Clear head next × (Counted len head next × Unit {0}))))
+Facts head tail next len =
+    record { linked : Linked head next; distinct : Distinct head next; ended : Ended head tail next; clear : Clear head next; counted : Counted len head next }
 
 pub facts : {head tail : ℕ} {next : List ℕ} {len : ℕ} {xs : List ℕ} → Stands head tail next len xs → Facts head tail next len
 facts {head} {tail} {next} {len} s =
     let t : Stands head tail next len (chain head next) = subst (λ ys. Stands head tail next len ys) (sym (chain_is s)) s in
-    (t.links, (t.once, (t.lasts, (t.clears, (t.counts, tt)))))
+    record { linked = t.links; distinct = t.once; ended = t.lasts; clear = t.clears; counted = t.counts }
 
 pub stands : (l : Links) → Stands l.head l.tail l.next l.len (numbers l)
 stands l = record { links = l.linked; once = l.distinct; lasts = l.ended; clears = l.clear; counts = l.counted }

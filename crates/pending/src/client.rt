@@ -1,7 +1,6 @@
 // The clients of a bus.
 ghost use Rattle.std.specs.Prelude.{◌<◌};
 ghost use Rattle.pending.specs.KeysLemmas.{below_path};
-ghost use Rattle.std.proofs.Common.{rules, arith};
 
 use crate::key::{Key, NONE};
 
@@ -14,7 +13,7 @@ pub struct Client {
 impl Key for Client {
     ghost code = { λ k. k.number };
 
-    ghost below = { first_of (Prim.search rules, Prim.grind (arith, Self.row.coded.inj)) };
+    ghost below = { λ k. k.below };
 
     ghost same = { λ j k e i. record { number = e i; below = below_path e j.below k.below i } };
 

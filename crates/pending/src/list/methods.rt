@@ -36,16 +36,16 @@ impl<K: Key> PendingList<K> {
     }
 
     pub fn is_pending(&self, key: &K) -> bool
-        ensures { result ≡ has (code key.now) (order self.now) }
+        ensures { result ≡ has (K.code key.now) (order self.now) }
     {
         self.links.has(key.number())
     }
 
     // Puts the key last. A pending one is refused, and nothing changes.
     pub fn add(&mut self, key: &K) -> Result<(), Refusal>
-        ensures answer { result ≡ add_answer (code key.now) (order self.old) }
-        ensures moves { order self.new ≡ added (code key.now) (order self.old) }
-        ensures refused { has (code key.now) (order self.old) ≡ true → self.new ≡ self.old }
+        ensures answer { result ≡ add_answer (K.code key.now) (order self.old) }
+        ensures moves { order self.new ≡ added (K.code key.now) (order self.old) }
+        ensures refused { has (K.code key.now) (order self.old) ≡ true → self.new ≡ self.old }
     {
         if self.is_pending(key) {
             return Err(Refusal::AlreadyPending);
@@ -56,7 +56,7 @@ impl<K: Key> PendingList<K> {
 
     // Takes the oldest key. Where there is none, nothing changes.
     pub fn take(&mut self) -> Option<K>
-        ensures answer { option_map code result ≡ oldest (order self.old) }
+        ensures answer { option_map K.code result ≡ oldest (order self.old) }
         ensures moves { order self.new ≡ rest (order self.old) }
         ensures none { order self.old ≡ [] → self.new ≡ self.old }
     {

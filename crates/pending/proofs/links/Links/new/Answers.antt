@@ -6,8 +6,8 @@ use Rattle.pending.proofs.links.Links.new.Goals as goal
 all_none : (next : List ℕ) → next ≡ replicate 255 255 → (k : ℕ) → k < 255 → get_or next k 0 ≡ 255
 all_none next e k b = ap (λ t. get_or t k 0) e ∙ get_or-replicate 255 k 255 0 b
 
-pub invariant-of-result : goal.invariant-of-result
-invariant-of-result c = facts (stands_none _ (all_none _ c.no-links.ensures))
+pub invariant_of-result : goal.invariant_of-result
+invariant_of-result c = facts (stands_none _ (all_none _ c.no_links.ensures))
 
 pub returns : goal.returns
-returns c = chain_is (stands_none _ (all_none _ c.no-links.ensures))
+returns c = chain_is (stands_none _ (all_none _ c.no_links.ensures))

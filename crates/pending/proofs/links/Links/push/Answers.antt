@@ -16,11 +16,11 @@ after c =
       | else-last w ↦ rw w.self-is (stands_push _ _ k _ _ _ n c.requires.0 c.requires.1 s w.if-last.false)
     ]
 
-pub overflow-add-self : goal.overflow-add-self
-overflow-add-self c = omega (arith, room c.args.number (numbers c.args.self.now) c.requires.0 c.requires.1 (stands c.args.self.now))
+pub overflow_add-self : goal.overflow_add-self
+overflow_add-self c = omega (arith, room c.args.number (numbers c.args.self.now) c.requires.0 c.requires.1 (stands c.args.self.now))
 
-pub invariant-of-self : goal.invariant-of-self
-invariant-of-self c = facts (after c)
+pub invariant_of-self : goal.invariant_of-self
+invariant_of-self c = facts (after c)
 
 pub returns : goal.returns
 returns c = chain_is (after (goal.at.returns c).Joined-last)
