@@ -11,9 +11,9 @@ use Rattle.line.specs.TurnsLemmas.{Round}
 pub round : (l : RoundRobin) → Round l.clients l.last l.word
 round l = record { few = l.few; inside = l.inside; known = l.known }
 
--- what a line carries, in the order of its fields
-pub facts : (n last w v : ℕ) → v ≡ w → Round n last w → (n ≤ 32) × ((last < n) × ((v < 2 ^ n) × Unit {0}))
-facts n last w v e o = (o.few, (o.inside, (rw e o.known, tt)))
+-- what a line carries, by the names of its ghost fields
+pub facts : (n last w v : ℕ) → v ≡ w → Round n last w → record { few : n ≤ 32; inside : last < n; known : v < 2 ^ n }
+facts n last w v e o = record { few = o.few; inside = o.inside; known = rw e o.known }
 
 -- the bit of client c, as the machine shifts it
 pub shifted : (c : ℕ) → c < 32 → 1 * 2 ^ c % 4294967296 ≡ 2 ^ c

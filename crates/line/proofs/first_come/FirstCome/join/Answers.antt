@@ -20,8 +20,8 @@ after c =
     let free = c.requires.1.1 in
     queue_push _ _ _ (arrivals l) (queue l) c.requires.0 c.requires.1.0 (grind (arith, nat_tests))
 
-pub invariant-of-self : goal.invariant-of-self
-invariant-of-self c = facts _ _ _ _ (grown c) (after c)
+pub invariant_of-self : goal.invariant_of-self
+invariant_of-self c = facts _ _ _ _ (grown c) (after c)
 
 pub returns : goal.returns
 returns c =

@@ -12,8 +12,8 @@ use Rattle.line.proofs.round_robin.RoundRobin.join.Goals.{Start}
 grown : (c : Start) → bit_or c.args.self.now.word (1 * 2 ^ c.args.client % 4294967296) ≡ with_bit c.args.self.now.word c.args.client
 grown c = let l = c.args.self.now in ap (bit_or l.word) (shifted c.args.client (omega (arith, l.few, c.requires.0)))
 
-pub invariant-of-self : goal.invariant-of-self
-invariant-of-self c = facts _ _ _ _ (grown c) (round_set _ _ _ (round c.args.self.now) c.args.client c.requires.0)
+pub invariant_of-self : goal.invariant_of-self
+invariant_of-self c = facts _ _ _ _ (grown c) (round_set _ _ _ (round c.args.self.now) c.args.client c.requires.0)
 
 pub returns : goal.returns
 returns c =

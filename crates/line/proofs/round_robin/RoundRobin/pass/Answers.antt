@@ -14,11 +14,11 @@ inside c = let l = c.args.self.now in (least_some (bit l.word) (turns_before l.c
 gone : (c : Start) → bit_and c.args.self.now.word (4294967295 - 1 * 2 ^ c.args.next % 4294967296) ≡ without_bit c.args.self.now.word c.args.next
 gone c = let l = c.args.self.now in ap (λ m. bit_and l.word (4294967295 - m)) (shifted c.args.next (omega (arith, l.few, inside c)))
 
-pub overflow-shl-self : goal.overflow-shl-self
-overflow-shl-self c = omega (arith, c.args.self.now.few, inside c)
+pub overflow_shl-self : goal.overflow_shl-self
+overflow_shl-self c = omega (arith, c.args.self.now.few, inside c)
 
-pub invariant-of-self : goal.invariant-of-self
-invariant-of-self c = facts _ _ _ _ (gone c) (round_clear _ _ _ (round c.args.self.now) c.args.next (inside c))
+pub invariant_of-self : goal.invariant_of-self
+invariant_of-self c = facts _ _ _ _ (gone c) (round_clear _ _ _ (round c.args.self.now) c.args.next (inside c))
 
 pub returns : goal.returns
 returns c =

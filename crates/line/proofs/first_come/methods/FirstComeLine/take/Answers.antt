@@ -2,8 +2,8 @@ use Rattle.std.proofs.Common.{sym, refl}
 use Rattle.line.specs.FirstComeLemmas.{queue, facts, queue_rest, queue_take}
 use Rattle.line.proofs.first_come.methods.FirstComeLine.take.Goals as goal
 
-pub invariant-of-self : goal.invariant-of-self
-invariant-of-self c = let l = c.args.self.now in facts _ _ _ _ c.take.ensures.moves (queue_rest _ _ _ (queue l))
+pub invariant_of-self : goal.invariant_of-self
+invariant_of-self c = let l = c.args.self.now in facts _ _ _ _ c.take.ensures.moves (queue_rest _ _ _ (queue l))
 
 pub returns : goal.returns
 returns c =
@@ -11,6 +11,6 @@ returns c =
     record {
       same = refl;
       answer = c.take.ensures.answer;
-      moves = queue_take l c.take.result _ (sym c.if-is-empty.ensures) c.take.ensures.answer c.take.ensures.moves;
+      moves = queue_take l c.take.result _ (sym c.if-is_empty.ensures) c.take.ensures.answer c.take.ensures.moves;
       exact = c.take.ensures.moves;
     }
