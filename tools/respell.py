@@ -5,8 +5,9 @@ usage: python3 tools/respell.py          at the top, once, after the kit's port.
        python3 tools/respell.py --dry    says what it would rename, and writes nothing
 
 A name with a dash that a file of specs/ or proofs/ defines gets underscores: 'call-number' is 'call_number'. One whose type
-ends in 'Type 0', and a record, is a fact or a type, and gets capitals: 'Line-law' is 'LineLaw'. Names that Rattle itself makes
-(goals, steps) keep their dashes, and so do the library's. Text in string literals of .rt files is left alone.
+ends in 'Type 0' on the line of its name, and a record, is a fact or a type, and gets capitals: 'Line-law' is 'LineLaw'. Names that
+Rattle makes (goals, steps) and the library's keep their dashes, unless one of the repository's is spelled alike. Text in string
+literals of .rt files is left alone. Where two names would fall together it stops with 1 and writes nothing.
 """
 
 import os
@@ -78,7 +79,8 @@ def main(argv):
         if w in targets:
             print(f"look: {w} stands already in {path}")
     if len(targets) != len(new):
-        print("look: two names fall together")
+        print("respell: two names fall together")
+        return 1
     for old in sorted(new):
         print(f"{old} -> {new[old]}")
     if "--dry" not in argv:
