@@ -2,11 +2,9 @@
 -- refusal_number: the number of the question at the door that was answered 'no'.
 -- refusal_value: what is told beside it, the device's verdict on a rejected order.
 -- OnlyRefusal: no other refusal has its number and value.
--- refusal_eq: whether two refusals have the same number and value; refusal_eq_decides: then they are equal.
-use Rattle.std.specs.Prelude.{◌≡◌, ℕ, Bool, ◌&&◌, ◌==◌, Decides, Some, None, Option}
+-- refusal_eq: have they the same number and value?
+use Rattle.std.specs.Prelude.{◌≡◌, ℕ, Bool, ◌&&◌, ◌==◌, Some, None, Option}
 use Rattle.std.specs.Option.{option_eq}
-use Rattle.std.proofs.Common.{arith}
-use Rattle.std.proofs.lemmas.Grind.{common_steps}
 use Rattle.calls.specs.declared.refusal.Refusal.{Refusal}
 use Rattle.calls.specs.declared.refusal.Refusal.TheVariants.{NoSuchClient, AlreadyRequested, LineFull, NotFreeAtOnce, NotOwner, TransferNotQuiet, OrderRejected, NoTransfer, TransferNotFinished, PowerNotChanging, NoTransferRunning, NoSuchTask, GrantTask, AlreadyPending, NoTaskPending, ClientsOutOfRange, PlacesOutOfRange, TasksOutOfRange, LineNotFresh, DeviceNotAtRest}
 
@@ -59,6 +57,3 @@ OnlyRefusal r = (other : Refusal) → refusal_number other ≡ refusal_number r 
 
 abbrev pub refusal_eq : Refusal → Refusal → Bool
 refusal_eq x y = refusal_number x == refusal_number y && option_eq (λ a b. a == b) (refusal_value x) (refusal_value y)
-
-pub refusal_eq_decides : (x y : Refusal) → Decides (refusal_eq x y) (x ≡ y)
-refusal_eq_decides x y = grind (arith, common_steps)

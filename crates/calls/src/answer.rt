@@ -4,11 +4,10 @@ ghost use Rattle.calls.specs.Answers.{answer_number, answer_value, is_refused};
 
 use crate::refusal::Refusal;
 
-// How a transfer ended, with the byte that it brought.
+// The transfer failed, with this byte.
 #[derive(Clone, Copy, PartialEq, Eq, Debug)]
-pub enum Outcome {
-    Value(u8),
-    Failed(u8),
+pub struct TransferFailed {
+    pub byte: u8,
 }
 
 #[derive(Clone, Copy, PartialEq, Eq, Debug)]
@@ -16,7 +15,8 @@ pub enum Answer {
     Okay,
     Granted { client: u8 },
     Ran { task: u8 },
-    Collected(Outcome),
+    // What the transfer brought.
+    Collected(Result<u8, TransferFailed>),
     Refused(Refusal),
 }
 
@@ -39,8 +39,7 @@ impl Answer {
         match self {
             Answer::Granted { client } => Some(client),
             Answer::Ran { task } => Some(task),
-            Answer::Collected(Outcome::Value(byte)) => Some(byte),
-            Answer::Collected(Outcome::Failed(byte)) => Some(byte),
+            Answer::Collected(Ok(byte) | Err(TransferFailed { byte })) => Some(byte),
             Answer::Refused(refusal) => refusal.value(),
             Answer::Okay => None,
         }

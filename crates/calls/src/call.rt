@@ -1,6 +1,9 @@
 // The calls that a board takes.
-ghost use Rattle.std.specs.Prelude.{◌≡◌};
+ghost use Rattle.std.specs.Prelude.{◌≡◌, Some};
 ghost use Rattle.calls.specs.Calls.{call_number, OnlyCall};
+ghost use Rattle.calls.specs.Words.{call_words};
+
+use std::fmt;
 
 // What a transfer asks of the device.
 #[derive(Clone, Copy, PartialEq, Eq, Debug)]
@@ -52,6 +55,35 @@ impl Call {
             Call::Tick => 7,
             Call::Post { .. } => 8,
             Call::Run => 9,
+        }
+    }
+}
+
+impl fmt::Display for Call {
+    ghost output = { λ call. Some (call_words call) };
+
+    fn fmt<W: fmt::Write>(&self, f: &mut fmt::Formatter<W>) -> fmt::Result {
+        match *self {
+            Call::Request { client } => write!(f, "request client {client}"),
+            Call::Immediate { client } => write!(f, "immediate client {client}"),
+            Call::Release { client } => write!(f, "release client {client}"),
+            Call::Begin { client, order } => {
+                let Order {
+                    kind,
+                    address,
+                    value,
+                } = order;
+                write!(
+                    f,
+                    "begin client {client} kind {kind} address {address} value {value}"
+                )
+            }
+            Call::Collect { client } => write!(f, "collect client {client}"),
+            Call::Ready => write!(f, "ready"),
+            Call::Done { mark, byte } => write!(f, "done mark {mark} byte {byte}"),
+            Call::Tick => write!(f, "tick"),
+            Call::Post { task } => write!(f, "post task {task}"),
+            Call::Run => write!(f, "run"),
         }
     }
 }

@@ -1,10 +1,10 @@
 // The refusals of the door.
-ghost use Rattle.std.specs.Prelude.{◌≡◌, Decides};
-ghost use Rattle.std.specs.Cmp as Keys;
-ghost use Rattle.calls.specs.Refusals.{refusal_number, refusal_value, OnlyRefusal, refusal_eq, refusal_eq_decides};
+ghost use Rattle.std.specs.Prelude.{◌≡◌};
+ghost use Rattle.calls.specs.declared.refusal.Refusal.{Refusal};
+ghost use Rattle.calls.specs.Refusals.{refusal_number, refusal_value, OnlyRefusal, refusal_eq};
 
 // The first question at the door that was answered 'no'.
-#[derive(Clone, Copy, Debug)]
+#[derive(Clone, Copy, PartialEq, Eq, Debug)]
 pub enum Refusal {
     NoSuchClient,
     // The client waits, or its grant is coming.
@@ -39,6 +39,9 @@ impl Refusal {
     pub fn number(self) -> u8
         ensures answer { result ≡ refusal_number self }
         ensures only { OnlyRefusal self }
+
+        // Refusals are compared by number and value.
+        ensures equal { (other : Refusal) → ⟦<Refusal as PartialEq>⟧.eq self other ≡ refusal_eq self other }
     {
         match self {
             Refusal::NoSuchClient => 1,
@@ -73,21 +76,4 @@ impl Refusal {
             _ => None,
         }
     }
-}
-
-impl PartialEq for Refusal {
-    ghost eq = { refusal_eq };
-
-    ghost laws = { Keys.partial_equiv_from_equiv (Keys.decided refusal_eq refusal_eq_decides) };
-
-    fn eq(&self, other: &Refusal) -> bool
-        ensures answer { result ≡ refusal_eq self.now other.now }
-        ensures equals { Decides result (self.now ≡ other.now) }
-    {
-        self.number() == other.number() && self.value() == other.value()
-    }
-}
-
-impl Eq for Refusal {
-    ghost laws = { Keys.decided refusal_eq refusal_eq_decides };
 }

@@ -1,10 +1,10 @@
 -- Board files in words.
--- call_words, settings_words: a call, and the settings of a board.
+-- settings_words: the settings of a board.
 -- event_line, settings_line, fault_line: the lines of a listing, each with its line feed.
 -- listing: the listing of a board file: its settings, and its events in order.
 use Rattle.std.specs.Prelude.{ℕ, ◌+◌, List, [], ◌∷◌, ◌++◌, codes, decimal}
 use Rattle.calls.specs.declared.call.Call.{Call}
-use Rattle.calls.specs.declared.call.Call.TheVariants.{Request, Immediate, Release, Begin, Collect, Ready, Done, Tick, Post, Run}
+use Rattle.calls.specs.Words.{call_words}
 use Rattle.boardfile.specs.declared.parts.Settings.{Settings}
 use Rattle.boardfile.specs.declared.parts.LineKind.{LineKind}
 use Rattle.boardfile.specs.declared.parts.LineKind.TheVariants.{FirstCome, RoundRobin}
@@ -14,18 +14,6 @@ use Rattle.boardfile.specs.declared.parts.DeviceKind.{DeviceKind}
 use Rattle.boardfile.specs.declared.parts.DeviceKind.TheVariants.{Registers, Converter}
 use Rattle.boardfile.specs.declared.fault.Fault.{Fault}
 use Rattle.boardfile.specs.Numbers.{fault_number}
-
-abbrev pub call_words : Call → List ℕ
-call_words (Request client) = codes "request client " ++ decimal client
-call_words (Immediate client) = codes "immediate client " ++ decimal client
-call_words (Release client) = codes "release client " ++ decimal client
-call_words (Begin client order) = codes "begin client " ++ (decimal client ++ (codes " kind " ++ (decimal order.kind ++ (codes " address " ++ (decimal order.address ++ (codes " value " ++ decimal order.value))))))
-call_words (Collect client) = codes "collect client " ++ decimal client
-call_words Ready = codes "ready"
-call_words (Done mark byte) = codes "done mark " ++ (decimal mark ++ (codes " byte " ++ decimal byte))
-call_words Tick = codes "tick"
-call_words (Post task) = codes "post task " ++ decimal task
-call_words Run = codes "run"
 
 abbrev pub line_word : LineKind → List ℕ
 line_word FirstCome = codes "first-come"

@@ -3,7 +3,6 @@ ghost use Rattle.std.specs.Prelude.{◌≡◌, ℕ, List, ◌++◌, take, IfOk, 
 ghost use Rattle.words.specs.Lists.{Lists, Tells};
 ghost use Rattle.words.specs.Words.{event_line, event_lines, listing};
 
-use crate::call::CallWords;
 use crate::fault::FaultWords;
 use crate::settings::SettingsWords;
 use boardfile::fault::ReadError;
@@ -12,15 +11,11 @@ use boardfile::reader::read;
 use calls::call::Call;
 use std::alloc::{AllocError, Global};
 
-// Adds the line of an event. Writing to a text fails for want of memory alone.
+// Adds the line of an event.
 fn add_event(text: &mut String, index: usize, event: Call) -> Result<(), AllocError>
     ensures { OnOk result (string_bytes text.new ≡ string_bytes text.old ++ event_line index event) }
 {
-    let words = CallWords(event);
-    match write!(text, "{index} {words}\n") {
-        Ok(()) => Ok(()),
-        Err(_) => Err(AllocError),
-    }
+    writeln!(text, "{index} {event}")
 }
 
 fn add_events(text: &mut String, events: &[Call]) -> Result<(), AllocError>
