@@ -10,6 +10,7 @@ pub struct TransferFailed {
     pub byte: u8,
 }
 
+// One enum for refusals too, and no `Result`: a report shows each case by its number and its value.
 #[derive(Clone, Copy, PartialEq, Eq, Debug)]
 pub enum Answer {
     Okay,

@@ -8,6 +8,7 @@ use std::fmt;
 // What a transfer asks of the device.
 #[derive(Clone, Copy, PartialEq, Eq, Debug)]
 pub struct Order {
+    // The byte as it came: which kinds there are, each device says itself.
     pub kind: u8,
     pub address: u16,
     pub value: u8,
@@ -28,7 +29,7 @@ pub enum Call {
     Collect { client: u8 },
     // The interrupt that the device has settled or drained.
     Ready,
-    // The interrupt that the transfer is done: well at mark 0, and failed at any other.
+    // The interrupt that the transfer is done: well at mark 0, and failed at any other. No `Result`, since each mark is a call of its own.
     Done { mark: u8, byte: u8 },
     // The clock.
     Tick,
@@ -39,7 +40,7 @@ pub enum Call {
 }
 
 impl Call {
-    // The number of its kind.
+    // The number of its kind. No `From`: it does not lead back to the call.
     pub fn number(self) -> u8
         ensures answer { result ≡ call_number self }
         ensures only { OnlyCall self }

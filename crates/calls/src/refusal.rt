@@ -14,7 +14,7 @@ pub enum Refusal {
     NotFreeAtOnce,
     NotOwner,
     TransferNotQuiet,
-    // The device's verdict on the order.
+    // The device's verdict on the order, a number of that device's own.
     OrderRejected { verdict: u8 },
     NoTransfer,
     TransferNotFinished,
@@ -35,7 +35,7 @@ pub enum Refusal {
 }
 
 impl Refusal {
-    // The number of the question.
+    // The number of the question. No `From`: without the value it does not lead back to the refusal.
     pub fn number(self) -> u8
         ensures answer { result ≡ refusal_number self }
         ensures only { OnlyRefusal self }
