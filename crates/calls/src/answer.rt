@@ -10,7 +10,7 @@ pub struct TransferFailed {
     pub byte: u8,
 }
 
-// One enum for refusals too, and no `Result`: a report shows each case by its number and its value.
+// One enum for all cases, and no `Result`: each has a number and a value, by methods that std's type cannot be given.
 #[derive(Clone, Copy, PartialEq, Eq, Debug)]
 pub enum Answer {
     Okay,
