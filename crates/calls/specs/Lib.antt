@@ -1,4 +1,5 @@
 pub mod Answers
 pub mod Calls
 pub mod Refusals
+pub mod RefusalsLemmas
 pub mod Words
