@@ -1,7 +1,8 @@
 // Lists the board file on standard input.
 #![tactic(auto)]
 
-use std::io::Read;
+use std::alloc::Global;
+use std::io::{Read, Write};
 use std::process::ExitCode;
 use words::listing::list;
 
@@ -9,17 +10,16 @@ use words::listing::list;
 const LIMIT: u64 = 24_589;
 
 // The text goes out in one write.
-fn run(rt: &HostRuntime) -> anyhow::Result<()> {
-    let heap = rt.alloc();
+fn run(heap: Global, input: impl Read + Drop, output: &mut impl Write) -> anyhow::Result<()> {
     let mut bytes = Vec::new(heap);
-    let _ = rt.stdin().take(LIMIT).read_to_end(&mut bytes)?;
+    let _ = input.take(LIMIT).read_to_end(&mut bytes)?;
     let text = list(heap, bytes.as_slice())?;
-    rt.write_all(text.as_bytes())?;
+    output.write_all(text.as_bytes())?;
     Ok(())
 }
 
 fn main(rt: HostRuntime) -> ExitCode {
-    match run(&rt) {
+    match run(rt.alloc(), rt.stdin(), &mut rt.stdout()) {
         Ok(()) => ExitCode::SUCCESS,
         Err(error) => {
             let _ = eprintln!(rt; "listing: {error}");
