@@ -1,9 +1,11 @@
 // What is wrong with a board file, and where.
-ghost use Rattle.std.specs.Prelude.{◌≡◌};
+ghost use Rattle.std.specs.Prelude.{◌≡◌, Some};
 ghost use Rattle.boardfile.specs.declared.fault.ReadError.TheVariants as read;
 ghost use Rattle.boardfile.specs.declared.fault.WriteError.TheVariants as write;
 
 use std::alloc::AllocFailed;
+use std::error::Error;
+use std::fmt;
 
 // The first three are refusals of a board's set-up, with the numbers of those.
 #[derive(Clone, Copy, PartialEq, Eq, Debug)]
@@ -70,12 +72,40 @@ impl Fault {
     }
 }
 
+impl fmt::Display for Fault {
+    ghost use Rattle.boardfile.specs.Words.{fault_words};
+
+    ghost output = { λ fault. Some (fault_words fault) };
+
+    fn fmt<W: fmt::Write>(&self, f: &mut fmt::Formatter<W>) -> fmt::Result {
+        let number = self.kind.number();
+        let (section, index) = self.place;
+        let section = section.number();
+        write!(f, "file {number} {section} {index}")
+    }
+}
+
 // Why a board file was not read.
 #[derive(Clone, Copy, PartialEq, Eq, Debug)]
 pub enum ReadError {
     Faulty(Fault),
     NoMemory,
 }
+
+impl fmt::Display for ReadError {
+    ghost use Rattle.boardfile.specs.Words.{read_error_words};
+
+    ghost output = { λ error. Some (read_error_words error) };
+
+    fn fmt<W: fmt::Write>(&self, f: &mut fmt::Formatter<W>) -> fmt::Result {
+        match self {
+            ReadError::Faulty(fault) => write!(f, "{fault}"),
+            ReadError::NoMemory => write!(f, "out of memory"),
+        }
+    }
+}
+
+impl Error for ReadError {}
 
 impl From<Fault> for ReadError {
     ghost from_gives = { λ f r. r ≡ read.Faulty f };
@@ -112,6 +142,21 @@ impl WriteError {
         }
     }
 }
+
+impl fmt::Display for WriteError {
+    ghost use Rattle.boardfile.specs.Words.{write_error_words};
+
+    ghost output = { λ error. Some (write_error_words error) };
+
+    fn fmt<W: fmt::Write>(&self, f: &mut fmt::Formatter<W>) -> fmt::Result {
+        match self {
+            WriteError::Faulty(fault) => write!(f, "{fault}"),
+            WriteError::TooSmall => write!(f, "the buffer is too small"),
+        }
+    }
+}
+
+impl Error for WriteError {}
 
 impl From<Fault> for WriteError {
     ghost from_gives = { λ f r. r ≡ write.Faulty f };

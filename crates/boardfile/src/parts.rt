@@ -54,6 +54,19 @@ impl TryFrom<u8> for LineKind {
     }
 }
 
+impl fmt::Display for LineKind {
+    ghost use Rattle.boardfile.specs.Words.{line_word};
+
+    ghost output = { λ kind. Some (line_word kind) };
+
+    fn fmt<W: fmt::Write>(&self, f: &mut fmt::Formatter<W>) -> fmt::Result {
+        f.write_str(match self {
+            LineKind::FirstCome => "first-come",
+            LineKind::RoundRobin => "round-robin",
+        })
+    }
+}
+
 #[derive(Clone, Copy, PartialEq, Eq, Debug)]
 pub enum PolicyKind {
     Immediate,
@@ -94,6 +107,19 @@ impl TryFrom<[u8; 3]> for PolicyKind {
     }
 }
 
+impl fmt::Display for PolicyKind {
+    ghost use Rattle.boardfile.specs.Words.{policy_words};
+
+    ghost output = { λ kind. Some (policy_words kind) };
+
+    fn fmt<W: fmt::Write>(&self, f: &mut fmt::Formatter<W>) -> fmt::Result {
+        match self {
+            PolicyKind::Immediate => write!(f, "immediate"),
+            PolicyKind::Deferred { delay } => write!(f, "deferred {delay}"),
+        }
+    }
+}
+
 #[derive(Clone, Copy, PartialEq, Eq, Debug)]
 pub enum DeviceKind {
     Registers,
@@ -126,6 +152,19 @@ impl TryFrom<u8> for DeviceKind {
             1 => Ok(DeviceKind::Converter),
             _ => Err(NoLayout),
         }
+    }
+}
+
+impl fmt::Display for DeviceKind {
+    ghost use Rattle.boardfile.specs.Words.{device_word};
+
+    ghost output = { λ kind. Some (device_word kind) };
+
+    fn fmt<W: fmt::Write>(&self, f: &mut fmt::Formatter<W>) -> fmt::Result {
+        f.write_str(match self {
+            DeviceKind::Registers => "registers",
+            DeviceKind::Converter => "converter",
+        })
     }
 }
 
@@ -166,6 +205,27 @@ impl From<Settings> for [u8; 8] {
             low,
             u8::from(device),
         ]
+    }
+}
+
+impl fmt::Display for Settings {
+    ghost use Rattle.boardfile.specs.Words.{settings_words};
+
+    ghost output = { λ settings. Some (settings_words settings) };
+
+    fn fmt<W: fmt::Write>(&self, f: &mut fmt::Formatter<W>) -> fmt::Result {
+        let Settings {
+            clients,
+            places,
+            tasks,
+            line,
+            policy,
+            device,
+        } = self;
+        write!(
+            f,
+            "clients {clients} places {places} tasks {tasks} line {line} policy {policy} device {device}"
+        )
     }
 }
 
