@@ -1,5 +1,5 @@
 // The writer of a board file.
-ghost use Rattle.std.specs.Prelude.{◌≡◌, ℕ, ◌+◌, ◌*◌, ◌≤◌, List, [], ◌∷◌, ◌++◌, length, take, drop, IfOk, IfErr, OnOk, Decides, MatchOption};
+ghost use Rattle.std.specs.Prelude.{◌≡◌, ℕ, ◌+◌, ◌*◌, ◌≤◌, List, [], ◌∷◌, ◌++◌, length, take, drop, ◌↔◌, IfOk, IfErr, OnOk, IfNone, IfSome, IsTrue};
 ghost use Rattle.std.specs.List.{flat_map};
 ghost use Rattle.boardfile.specs.Layout.{event_bytes, events_bytes, settings_bytes};
 ghost use Rattle.boardfile.specs.Fits.{EventFits, EventsFit, Fits};
@@ -54,7 +54,7 @@ fn put_settings(settings: Settings, buf: &mut [u8])
 }
 
 fn fits(event: Call) -> bool
-    ensures { Decides result (EventFits event) }
+    ensures { IsTrue result ↔ EventFits event }
 {
     match event {
         Call::Done { mark, .. } => mark <= 1,
@@ -64,14 +64,10 @@ fn fits(event: Call) -> bool
 
 // The index of the first event that does not fit.
 fn first_unfit(events: &[Call]) -> Option<usize>
-    ensures { MatchOption result (EventsFit events.now) (UnfitAt events.now) }
+    ensures none { IfNone result (EventsFit events.now) }
+    ensures first { IfSome result (UnfitAt events.now) }
 {
-    for (index, event) in events.iter().enumerate() {
-        if !fits(*event) {
-            return Some(index);
-        }
-    }
-    None
+    events.iter().position(|event| !fits(*event))
 }
 
 // The reader's tests of the parts.

@@ -1,13 +1,14 @@
 use Rattle.std.proofs.Common.{◌≡◌, ◌+◌, ◌<◌, [], ◌∷◌, ◌++◌, length, vec_items, ap, ◌∙◌, refl, inl, inr, arith, rules}
 use Rattle.std.specs.List.{flat_map}
 use Rattle.std.proofs.lemmas.List.{length_push, length-append, length-drop}
-use Rattle.std.proofs.lemmas.Grind.{common_steps}
+use Rattle.std.proofs.lemmas.List.Elements.{All-push}
 use Rattle.std.proofs.lemmas.Result.{err_from_is_err_and}
 use Rattle.boardfile.specs.Layout.{event_bytes}
+use Rattle.boardfile.specs.Fits.{EventFits}
 use Rattle.boardfile.specs.Faults.{count_of, HasEvents, At}
 use Rattle.boardfile.specs.declared.fault.FaultKind.TheVariants.{Trailing}
 use Rattle.boardfile.specs.declared.fault.Section.TheVariants.{Events}
-use Rattle.boardfile.proofs.Records.{events_more, fewer, fit_more}
+use Rattle.boardfile.proofs.Records.{events_more, fewer}
 use Rattle.boardfile.proofs.Unique.{events_length, none_past}
 use Rattle.boardfile.proofs.events.read_events.Goals as goal
 
@@ -28,12 +29,9 @@ returns-in_err-push-clause-refused c =
     let e = c.in-Ok.event in
     let q = c.in-Ok.ensures in
     let here : HasEvents b (l.index + 1) c.in-Ok.more.now =
-    (es ++ e ∷ [], length_push es e ∙ ap (λ n. n + 1) l.invariant.counted, fit_more es e l.invariant.fit q.fits, events_more _ es e _ _ l.invariant.layout q.layout) in
+    (es ++ e ∷ [], length_push es e ∙ ap (λ n. n + 1) l.invariant.counted, All-push EventFits es e l.invariant.fit q.fits, events_more _ es e _ _ l.invariant.layout q.layout) in
     let p = err_from_is_err_and c.from_residual-in_err-push.result c.from_residual-in_err-push.ensures.1 in
     rw (p.1, p.2) (record { counted = search rules; allowed = search rules; whole = search rules; some = search rules; event = fewer b _ 1 _ (omega arith) here })
-
-pub loop-index-preserved : goal.loop-index-preserved
-loop-index-preserved c = grind (arith, common_steps, fit_more, events_more)
 
 pub returns-then-not-is_empty-clause-refused : goal.returns-then-not-is_empty-clause-refused
 returns-then-not-is_empty-clause-refused c =
