@@ -1,15 +1,17 @@
 // Reading and writing a board file undo each other. Both laws follow from the contracts of the reader and the writer alone.
 #![tactic(auto)]
 
-ghost use Rattle.boardcopy.specs.Copies.{Rewrites, Rereads};
+ghost use Rattle.boardcopy.specs.Copies.{Rewrites, Rereads, copy_error_words};
 ghost use Rattle.boardcopy.specs.declared.CopyError.TheVariants.{Unread, Unwritten};
-ghost use Rattle.std.specs.Prelude.{◌≡◌};
+ghost use Rattle.std.specs.Prelude.{◌≡◌, Some};
 
 use boardfile::fault::{ReadError, WriteError};
 use boardfile::parts::BoardFile;
 use boardfile::reader::read;
 use boardfile::writer::write;
 use std::alloc::Global;
+use std::error::Error;
+use std::fmt;
 
 // Why a board file was not copied.
 #[derive(Clone, Copy, PartialEq, Eq, Debug)]
@@ -17,6 +19,19 @@ pub enum CopyError {
     Unread(ReadError),
     Unwritten(WriteError),
 }
+
+impl fmt::Display for CopyError {
+    ghost output = { λ error. Some (copy_error_words error) };
+
+    fn fmt<W: fmt::Write>(&self, f: &mut fmt::Formatter<W>) -> fmt::Result {
+        match self {
+            CopyError::Unread(error) => write!(f, "{error}"),
+            CopyError::Unwritten(error) => write!(f, "{error}"),
+        }
+    }
+}
+
+impl Error for CopyError {}
 
 impl From<ReadError> for CopyError {
     ghost from_gives = { λ e r. r ≡ Unread e };

@@ -6,6 +6,8 @@ use Rattle.std.proofs.lemmas.Bool.{cases_order}
 use Rattle.calls.specs.declared.call.Call.{Call}
 use Rattle.boardfile.specs.declared.parts.Settings.{Settings}
 use Rattle.boardfile.specs.declared.fault.FaultKind.{FaultKind}
+use Rattle.boardfile.specs.declared.fault.Section.{Section}
+use Rattle.boardfile.specs.declared.fault.Section.TheVariants as section
 use Rattle.boardfile.specs.declared.fault.FaultKind.TheVariants.{Unfit}
 use Rattle.boardfile.specs.declared.fault.Fault.{Fault}
 use Rattle.boardfile.specs.declared.fault.ReadError.{ReadError}
@@ -36,7 +38,7 @@ clean_check : (P : Type 0) (F later : Fault → Type 0) → P → Clean later �
 clean_check P F later p c f (inl x) = x.0 p
 clean_check P F later p c f (inr x) = c f x.1
 
-one_at : (kind : FaultKind) (section index : ℕ) → One (At kind section index)
+one_at : (kind : FaultKind) (section : Section) (index : ℕ) → One (At kind section index)
 one_at kind section index f g p q = p ∙ sym q
 
 one_none : One NoFault
@@ -99,7 +101,7 @@ second_section b s t e = ap (λ (x : List ℕ). drop 10 x) e ∙ drop_at (settin
 one_unfit : (b : List ℕ) → One (FirstUnfit b)
 one_unfit b f g (i, t, has, none, e) (j, u, has', none', e') =
     elim (cases_order i j) [
-      | inl p ↦ e ∙ ap (λ (k : ℕ). record { kind = Unfit; place = (2, k) }) p ∙ sym e'
+      | inl p ↦ e ∙ ap (λ (k : ℕ). record { kind = Unfit; place = (section.Events, k) }) p ∙ sym e'
       | inr (inl l) ↦ absurd (none_past b u t j i has' has none l)
       | inr (inr l) ↦ absurd (none_past b t u i j has has' none' l)
     ]

@@ -2,6 +2,7 @@
 use Rattle.std.proofs.Common.{◌≡◌, ℕ, ◌+◌, ◌*◌, ◌<◌, cond, eqb, List, [], ◌∷◌, ◌++◌, length, get_or, drop, sym, refl, ap, ◌∙◌, arith}
 use Rattle.std.specs.List.{flat_map}
 use Rattle.std.proofs.lemmas.List.{append_assoc, drop_at, length-append}
+use Rattle.std.proofs.lemmas.List.Elements.{All-head, All-tail}
 use Rattle.calls.specs.declared.call.Call.{Call}
 use Rattle.calls.specs.declared.call.Call.TheVariants.{Request, Immediate, Release, Begin, Collect, Ready, Done, Tick, Post, Run}
 use Rattle.boardfile.specs.declared.parts.Settings.{Settings}
@@ -12,7 +13,7 @@ use Rattle.boardfile.specs.declared.parts.PolicyKind.TheVariants as policy
 use Rattle.boardfile.specs.declared.parts.DeviceKind.{DeviceKind}
 use Rattle.boardfile.specs.declared.parts.DeviceKind.TheVariants.{Registers, Converter}
 use Rattle.boardfile.specs.Layout.{high, low, event_bytes, settings_bytes, policy_bytes, line_byte, device_byte, file_bytes}
-use Rattle.boardfile.specs.Fits.{EventsFit}
+use Rattle.boardfile.specs.Fits.{EventFits, EventsFit}
 use Rattle.boardfile.specs.Faults.{HasEvents, NoEvent}
 
 pub two_bytes : (n : ℕ) → high n * 256 + low n ≡ n
@@ -80,10 +81,10 @@ same_events (e ∷ es) (e' ∷ es') n p =
 -- where more events stand than were counted off, what is left begins with an event
 follows : (es es' : List Call) (t t' : List ℕ) → EventsFit es → length es' < length es → flat_map event_bytes es ++ t ≡ flat_map event_bytes es' ++ t' → NoEvent t' → ⊥
 follows [] es' t t' h n p none = omega arith
-follows (e ∷ es) [] t t' h n p none = none e (flat_map event_bytes es ++ t) h.0 (sym p ∙ append_assoc (event_bytes e) (flat_map event_bytes es) t)
+follows (e ∷ es) [] t t' h n p none = none e (flat_map event_bytes es ++ t) (All-head EventFits e es h) (sym p ∙ append_assoc (event_bytes e) (flat_map event_bytes es) t)
 follows (e ∷ es) (e' ∷ es') t t' h n p none =
     let q = same_event e e' (flat_map event_bytes es ++ t) (flat_map event_bytes es' ++ t') (sym (append_assoc (event_bytes e) (flat_map event_bytes es) t) ∙ p ∙ append_assoc (event_bytes e') (flat_map event_bytes es') t') in
-    follows es es' t t' h.1 (omega arith) q.1 none
+    follows es es' t t' (All-tail EventFits e es h) (omega arith) q.1 none
 
 -- nothing that fits stands past the first record that does not
 pub none_past : (b t t' : List ℕ) (n i : ℕ) → HasEvents b n t → HasEvents b i t' → NoEvent t' → i < n → ⊥

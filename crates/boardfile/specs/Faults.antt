@@ -11,6 +11,8 @@ use Rattle.boardfile.specs.declared.parts.BoardFile.{BoardFile}
 use Rattle.boardfile.specs.declared.parts.Settings.{Settings}
 use Rattle.boardfile.specs.declared.fault.FaultKind.{FaultKind}
 use Rattle.boardfile.specs.declared.fault.FaultKind.TheVariants.{Clients, Places, Tasks, Missing, Count, Unfit, Trailing}
+use Rattle.boardfile.specs.declared.fault.Section.{Section}
+use Rattle.boardfile.specs.declared.fault.Section.TheVariants as section
 use Rattle.boardfile.specs.declared.fault.Fault.{Fault}
 use Rattle.boardfile.specs.declared.fault.ReadError.{ReadError}
 use Rattle.boardfile.specs.declared.fault.ReadError.TheVariants as read
@@ -28,7 +30,7 @@ abbrev pub NoFault : Fault → Type 0
 NoFault f = ⊥
 
 -- the fault of this kind, at this section and record
-abbrev pub At : FaultKind → ℕ → ℕ → Fault → Type 0
+abbrev pub At : FaultKind → Section → ℕ → Fault → Type 0
 At kind section index f = f ≡ record { kind = kind; place = (section, index) }
 
 -- a section's count
@@ -49,33 +51,33 @@ NoEvent t = (e : Call) (u : List ℕ) → EventFits e → t ≢ event_bytes e ++
 
 -- the first record that does not fit
 abbrev pub FirstUnfit : List ℕ → Fault → Type 0
-FirstUnfit b f = (i : ℕ) × (t : List ℕ) × HasEvents b i t × NoEvent t × At Unfit 2 i f
+FirstUnfit b f = (i : ℕ) × (t : List ℕ) × HasEvents b i t × NoEvent t × At Unfit section.Events i f
 
 -- the tests of the settings themselves, which the writer makes too
 abbrev pub SettingsChecks : Settings → (Fault → Type 0) → Fault → Type 0
 SettingsChecks s later =
-    Check (ClientsFit s) (At Clients 1 0)
-    (Check (PlacesFit s) (At Places 1 0)
-    (Check (TasksFit s) (At Tasks 1 0)
+    Check (ClientsFit s) (At Clients section.Settings 0)
+    (Check (PlacesFit s) (At Places section.Settings 0)
+    (Check (TasksFit s) (At Tasks section.Settings 0)
     later))
 
 -- the bytes of a file from its first section on
 abbrev pub SettingsFaulty : List ℕ → (Fault → Type 0) → Fault → Type 0
 SettingsFaulty b later =
-    Check (2 ≤ length b) (At Missing 1 0)
-    (Check (count_of b ≡ 1) (At Count 1 0)
-    (Check (10 ≤ length b) (At Missing 1 0)
-    (Check (HasSettings b (λ s. Unit {0})) (At Unfit 1 0)
+    Check (2 ≤ length b) (At Missing section.Settings 0)
+    (Check (count_of b ≡ 1) (At Count section.Settings 0)
+    (Check (10 ≤ length b) (At Missing section.Settings 0)
+    (Check (HasSettings b (λ s. Unit {0})) (At Unfit section.Settings 0)
     (λ f. HasSettings b (λ s. SettingsChecks s later f)))))
 
 -- the bytes of a file from its second section on
 abbrev pub EventsFaulty : List ℕ → Fault → Type 0
 EventsFaulty b =
-    Check (2 ≤ length b) (At Missing 2 0)
-    (Check (count_of b ≤ 4096) (At Count 2 0)
-    (Check (2 + 6 * count_of b ≤ length b) (At Missing 2 ((length b - 2) / 6))
+    Check (2 ≤ length b) (At Missing section.Events 0)
+    (Check (count_of b ≤ 4096) (At Count section.Events 0)
+    (Check (2 + 6 * count_of b ≤ length b) (At Missing section.Events ((length b - 2) / 6))
     (Check ((t : List ℕ) × HasEvents b (count_of b) t) (FirstUnfit b)
-    (Check (length b ≡ 2 + 6 * count_of b) (At Trailing 2 (count_of b))
+    (Check (length b ≡ 2 + 6 * count_of b) (At Trailing section.Events (count_of b))
     NoFault))))
 
 -- there is an event to keep, so memory is wanted
@@ -109,8 +111,8 @@ UnfitAt es i = (i < length es) × EventsFit (take i es) × (EventsFit (take (i +
 abbrev pub PartsFaulty : Settings → List Call → Fault → Type 0
 PartsFaulty s es =
     SettingsChecks s
-    (Check (length es ≤ 4096) (At Count 2 0)
-    (Check (EventsFit es) (λ f. (i : ℕ) × UnfitAt es i × At Unfit 2 i f)
+    (Check (length es ≤ 4096) (At Count section.Events 0)
+    (Check (EventsFit es) (λ f. (i : ℕ) × UnfitAt es i × At Unfit section.Events i f)
     NoFault))
 
 -- the writer's tests of a file as it is held

@@ -2,7 +2,7 @@
 -- ClientsFit, PlacesFit, TasksFit: the three tests of the settings, which a board's set-up makes too.
 -- EventFits: the mark of a done is 0 or 1; whether a client or a task exists is the board's question.
 -- FileFits: all of it, with at most 4,096 events. Fits: the same of a file as it is held.
-use Rattle.std.specs.Prelude.{◌≡◌, ◌≤◌, List, [], ◌∷◌, length, vec_items}
+use Rattle.std.specs.Prelude.{◌≡◌, ◌≤◌, List, All, length, vec_items}
 use Rattle.calls.specs.declared.call.Call.{Call}
 use Rattle.calls.specs.declared.call.Call.TheVariants.{Request, Immediate, Release, Begin, Collect, Ready, Done, Tick, Post, Run}
 use Rattle.boardfile.specs.declared.parts.BoardFile.{BoardFile}
@@ -34,8 +34,7 @@ EventFits (Post task) = Unit {0}
 EventFits Run = Unit {0}
 
 abbrev pub EventsFit : List Call → Type 0
-EventsFit [] = Unit {0}
-EventsFit (e ∷ es) = EventFits e × EventsFit es
+EventsFit es = All EventFits es
 
 abbrev pub FileFits : Settings → List Call → Type 0
 FileFits s es = SettingsFit s × (length es ≤ 4096) × EventsFit es

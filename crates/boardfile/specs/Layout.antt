@@ -2,8 +2,9 @@
 -- high, low: the two bytes of a number below 65,536; the high one comes first.
 -- settings_bytes, event_bytes: the records, of eight and of six bytes.
 -- events_bytes: the second section, a count and a record for each event.
+-- Decodes: a decoder's answer to bytes: what they lay out, or else there is nothing that they do.
 -- file_bytes: the whole file; the first section is a count of 1 and the settings. layout: the same of a file as it is held.
-use Rattle.std.specs.Prelude.{ℕ, ◌/◌, ◌%◌, List, [], ◌∷◌, ◌++◌, length, vec_items}
+use Rattle.std.specs.Prelude.{◌≡◌, ◌≢◌, ℕ, ◌/◌, ◌%◌, List, [], ◌∷◌, ◌++◌, length, vec_items, MatchResult, Result}
 use Rattle.std.specs.List.{flat_map}
 use Rattle.calls.specs.declared.call.Call.{Call}
 use Rattle.calls.specs.declared.call.Call.TheVariants.{Request, Immediate, Release, Begin, Collect, Ready, Done, Tick, Post, Run}
@@ -34,6 +35,9 @@ policy_bytes (policy.Deferred delay) = 1 ∷ high delay ∷ low delay ∷ []
 abbrev pub device_byte : DeviceKind → ℕ
 device_byte Registers = 0
 device_byte Converter = 1
+
+abbrev pub Decodes : {A B E : Type 0} → (A → B) → B → Result A E → Type 0
+Decodes {A} bytes_of b r = MatchResult r (λ a. b ≡ bytes_of a) (λ _. (a : A) → b ≢ bytes_of a)
 
 abbrev pub settings_bytes : Settings → List ℕ
 settings_bytes s = s.clients ∷ s.places ∷ s.tasks ∷ line_byte s.line ∷ (policy_bytes s.policy ++ device_byte s.device ∷ [])

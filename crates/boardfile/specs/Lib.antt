@@ -3,4 +3,5 @@ pub mod Fits
 pub mod Layout
 pub mod Numbers
 pub mod Reads
+pub mod Words
 pub mod Writes

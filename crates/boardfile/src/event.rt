@@ -1,26 +1,29 @@
-// The record of one event.
-ghost use Rattle.std.specs.Prelude.{◌≡◌, ℕ, List, [], ◌∷◌, ◌++◌, MatchOption, ◌≢◌};
+// The record of one event. A call is another crate's type, so its codec is two functions here.
+ghost use Rattle.std.specs.Prelude.{◌≡◌, ◌++◌, ◌≢◌, IfOk, OnErr};
 ghost use Rattle.calls.specs.declared.call.Call.{Call};
 ghost use Rattle.boardfile.specs.Layout.{event_bytes};
 ghost use Rattle.boardfile.specs.Fits.{EventFits};
 ghost use Rattle.boardfile.specs.Faults.{NoEvent};
 
+use crate::parts::NoLayout;
 use calls::call::{Call, Order};
 
 // The bytes of a record.
 pub(crate) const LEN: usize = 6;
 
-// The event of a record's six bytes, if they are the layout of one that fits.
-fn decode(kind: u8, who: u8, order_kind: u8, high: u8, low: u8, value: u8) -> Option<Call>
-    ensures { MatchOption result ((e : Call) → EventFits e → kind ∷ who ∷ order_kind ∷ high ∷ low ∷ value ∷ [] ≢ event_bytes e) (λ e. EventFits e × (kind ∷ who ∷ order_kind ∷ high ∷ low ∷ value ∷ [] ≡ event_bytes e)) }
+// The event that a record's bytes lay out, if it fits.
+fn decode(bytes: [u8; LEN]) -> Result<Call, NoLayout>
+    ensures fits { IfOk result EventFits }
+    ensures layout { IfOk result (λ e. bytes ≡ event_bytes e) }
+    ensures none { OnErr result ((e : Call) → EventFits e → bytes ≢ event_bytes e) }
 {
-    match (kind, who, order_kind, high, low, value) {
-        (0, client, 0, 0, 0, 0) => Some(Call::Request { client }),
-        (1, client, 0, 0, 0, 0) => Some(Call::Immediate { client }),
-        (2, client, 0, 0, 0, 0) => Some(Call::Release { client }),
-        (3, client, kind, _, _, value) => {
+    match bytes {
+        [0, client, 0, 0, 0, 0] => Ok(Call::Request { client }),
+        [1, client, 0, 0, 0, 0] => Ok(Call::Immediate { client }),
+        [2, client, 0, 0, 0, 0] => Ok(Call::Release { client }),
+        [3, client, kind, high, low, value] => {
             let address = u16::from_be_bytes([high, low]);
-            Some(Call::Begin {
+            Ok(Call::Begin {
                 client,
                 order: Order {
                     kind,
@@ -29,25 +32,27 @@ fn decode(kind: u8, who: u8, order_kind: u8, high: u8, low: u8, value: u8) -> Op
                 },
             })
         }
-        (4, client, 0, 0, 0, 0) => Some(Call::Collect { client }),
-        (5, 0, 0, 0, 0, 0) => Some(Call::Ready),
-        (6, mark, 0, 0, 0, byte) if mark <= 1 => Some(Call::Done { mark, byte }),
-        (7, 0, 0, 0, 0, 0) => Some(Call::Tick),
-        (8, task, 0, 0, 0, 0) => Some(Call::Post { task }),
-        (9, 0, 0, 0, 0, 0) => Some(Call::Run),
-        _ => None,
+        [4, client, 0, 0, 0, 0] => Ok(Call::Collect { client }),
+        [5, 0, 0, 0, 0, 0] => Ok(Call::Ready),
+        [6, mark, 0, 0, 0, byte] if mark <= 1 => Ok(Call::Done { mark, byte }),
+        [7, 0, 0, 0, 0, 0] => Ok(Call::Tick),
+        [8, task, 0, 0, 0, 0] => Ok(Call::Post { task }),
+        [9, 0, 0, 0, 0, 0] => Ok(Call::Run),
+        _ => Err(NoLayout),
     }
 }
 
 // The event whose record the bytes begin with, and the bytes after it.
-pub(crate) fn take_event(bytes: &[u8]) -> Option<(Call, &[u8])>
-    ensures { MatchOption result (NoEvent bytes.now) (λ p. EventFits p.0 × (bytes.now ≡ event_bytes p.0 ++ p.1.now)) }
+pub(crate) fn take_event(bytes: &[u8]) -> Result<(Call, &[u8]), NoLayout>
+    ensures fits { IfOk result (λ p. EventFits p.0) }
+    ensures layout { IfOk result (λ p. bytes.now ≡ event_bytes p.0 ++ p.1.now) }
+    ensures none { OnErr result (NoEvent bytes.now) }
 {
     let [kind, who, order_kind, high, low, value, rest @ ..] = bytes else {
-        return None;
+        return Err(NoLayout);
     };
-    let event = decode(*kind, *who, *order_kind, *high, *low, *value)?;
-    Some((event, rest))
+    let event = decode([*kind, *who, *order_kind, *high, *low, *value])?;
+    Ok((event, rest))
 }
 
 pub(crate) fn encode(event: Call) -> [u8; LEN]

@@ -1,51 +1,43 @@
 // The events section.
-ghost use Rattle.std.specs.Prelude.{◌≡◌, ◌≤◌, length, MatchResult};
+ghost use Rattle.std.specs.Prelude.{◌≡◌, ◌≤◌, length, IfOk, IfErr};
 ghost use Rattle.boardfile.specs.Layout.{events_bytes};
 ghost use Rattle.boardfile.specs.Fits.{EventsFit};
 ghost use Rattle.boardfile.specs.Faults.{EventsRefused};
 
+use crate::count::take_count;
 use crate::event;
 use crate::event::take_event;
-use crate::fault::{Fault, FaultKind, ReadError};
+use crate::fault::{Fault, FaultKind, ReadError, Section};
 use crate::parts::MOST_EVENTS;
 use calls::call::Call;
 use std::alloc::Global;
 
-fn fault(kind: FaultKind, index: u16) -> ReadError
-    ensures { result ≡ ReadError.Faulty (record { kind = kind; place = (2, index) }) }
-{
-    ReadError::Faulty(Fault {
-        kind,
-        place: (2, index),
-    })
-}
-
 // The events of a file, whose second section the bytes are.
 pub(crate) fn read_events(heap: Global, bytes: &[u8]) -> Result<Vec<Call>, ReadError>
-    ensures { MatchResult result (λ v. (bytes.now ≡ events_bytes v.items) × (length v.items ≤ 4096) × EventsFit v.items) (λ e. EventsRefused bytes.now e) }
+    ensures layout { IfOk result (λ v. bytes.now ≡ events_bytes v.items) }
+    ensures allowed { IfOk result (λ v. length v.items ≤ 4096) }
+    ensures fit { IfOk result (λ v. EventsFit v.items) }
+    ensures refused { IfErr result (EventsRefused bytes.now) }
 {
-    let [high, low, records @ ..] = bytes else {
-        return Err(fault(FaultKind::Missing, 0));
-    };
-    let count = u16::from_be_bytes([*high, *low]);
+    let (count, records) = take_count(Section::Events, bytes)?;
     if count > MOST_EVENTS {
-        return Err(fault(FaultKind::Count, 0));
+        return Err(Fault::new(FaultKind::Count, Section::Events, 0).into());
     }
     let whole = records.len() / event::LEN;
     if whole < count as usize {
-        return Err(fault(FaultKind::Missing, whole as u16));
+        return Err(Fault::new(FaultKind::Missing, Section::Events, whole as u16).into());
     }
     let mut events = Vec::new(heap);
     let mut rest = records;
     for index in 0..count {
-        let Some((event, more)) = take_event(rest) else {
-            return Err(fault(FaultKind::Unfit, index));
+        let Ok((event, more)) = take_event(rest) else {
+            return Err(Fault::new(FaultKind::Unfit, Section::Events, index).into());
         };
         events.push(event)?;
         rest = more;
     }
     if !rest.is_empty() {
-        return Err(fault(FaultKind::Trailing, count));
+        return Err(Fault::new(FaultKind::Trailing, Section::Events, count).into());
     }
     Ok(events)
 }

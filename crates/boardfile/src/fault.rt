@@ -1,50 +1,88 @@
 // What is wrong with a board file, and where.
-ghost use Rattle.std.specs.Prelude.{◌≡◌};
-ghost use Rattle.boardfile.specs.Numbers.{fault_number, OnlyKind, write_number};
+ghost use Rattle.std.specs.Prelude.{◌≡◌, Some};
 ghost use Rattle.boardfile.specs.declared.fault.ReadError.TheVariants as read;
 ghost use Rattle.boardfile.specs.declared.fault.WriteError.TheVariants as write;
 
-use calls::refusal::Refusal;
 use std::alloc::AllocFailed;
+use std::error::Error;
+use std::fmt;
 
+// The first three are refusals of a board's set-up, with the numbers of those.
 #[derive(Clone, Copy, PartialEq, Eq, Debug)]
 pub enum FaultKind {
-    // The settings are refused as a board's would be.
-    Clients,
-    Places,
-    Tasks,
+    Clients = 16,
+    Places = 17,
+    Tasks = 18,
     // A count or a record is not there, or not whole.
-    Missing,
+    Missing = 21,
     // A count is not allowed.
-    Count,
+    Count = 22,
     // A record is no layout of settings or of an event.
-    Unfit,
+    Unfit = 23,
     // Bytes follow the last record.
-    Trailing,
+    Trailing = 24,
 }
 
 impl FaultKind {
+    ghost use Rattle.boardfile.specs.Numbers.{fault_number, OnlyKind};
+
     pub fn number(self) -> u8
         ensures answer { result ≡ fault_number self }
         ensures only { OnlyKind self }
     {
-        match self {
-            FaultKind::Clients => Refusal::ClientsOutOfRange.number(),
-            FaultKind::Places => Refusal::PlacesOutOfRange.number(),
-            FaultKind::Tasks => Refusal::TasksOutOfRange.number(),
-            FaultKind::Missing => 21,
-            FaultKind::Count => 22,
-            FaultKind::Unfit => 23,
-            FaultKind::Trailing => 24,
+        self as u8
+    }
+}
+
+// The sections of a board file, in their order.
+#[derive(Clone, Copy, PartialEq, Eq, Debug)]
+pub enum Section {
+    Settings = 1,
+    Events = 2,
+}
+
+impl Section {
+    ghost use Rattle.boardfile.specs.Numbers.{section_number, OnlySection};
+
+    pub fn number(self) -> u8
+        ensures answer { result ≡ section_number self }
+        ensures only { OnlySection self }
+    {
+        self as u8
+    }
+}
+
+// The place is the section, and the record in it, from 0.
+#[derive(Clone, Copy, PartialEq, Eq, Debug)]
+pub struct Fault {
+    pub kind: FaultKind,
+    pub place: (Section, u16),
+}
+
+impl Fault {
+    ghost use Rattle.boardfile.specs.Faults.{At};
+
+    pub fn new(kind: FaultKind, section: Section, index: u16) -> Fault
+        ensures { At kind section index result }
+    {
+        Fault {
+            kind,
+            place: (section, index),
         }
     }
 }
 
-// The place is the section, from 1, and the record in it, from 0.
-#[derive(Clone, Copy, PartialEq, Eq, Debug)]
-pub struct Fault {
-    pub kind: FaultKind,
-    pub place: (u8, u16),
+impl fmt::Display for Fault {
+    ghost use Rattle.boardfile.specs.Words.{fault_words};
+
+    ghost output = { λ fault. Some (fault_words fault) };
+
+    fn fmt<W: fmt::Write>(&self, f: &mut fmt::Formatter<W>) -> fmt::Result {
+        let number = self.kind.number();
+        let (section, index) = self.place;
+        let section = section.number();
+        write!(f, "file {number} {section} {index}")
+    }
 }
 
 // Why a board file was not read.
@@ -53,6 +91,21 @@ pub enum ReadError {
     Faulty(Fault),
     NoMemory,
 }
+
+impl fmt::Display for ReadError {
+    ghost use Rattle.boardfile.specs.Words.{read_error_words};
+
+    ghost output = { λ error. Some (read_error_words error) };
+
+    fn fmt<W: fmt::Write>(&self, f: &mut fmt::Formatter<W>) -> fmt::Result {
+        match self {
+            ReadError::Faulty(fault) => write!(f, "{fault}"),
+            ReadError::NoMemory => write!(f, "out of memory"),
+        }
+    }
+}
+
+impl Error for ReadError {}
 
 impl From<Fault> for ReadError {
     ghost from_gives = { λ f r. r ≡ read.Faulty f };
@@ -78,6 +131,8 @@ pub enum WriteError {
 }
 
 impl WriteError {
+    ghost use Rattle.boardfile.specs.Numbers.{write_number};
+
     pub fn number(self) -> u8
         ensures { result ≡ write_number self }
     {
@@ -87,6 +142,21 @@ impl WriteError {
         }
     }
 }
+
+impl fmt::Display for WriteError {
+    ghost use Rattle.boardfile.specs.Words.{write_error_words};
+
+    ghost output = { λ error. Some (write_error_words error) };
+
+    fn fmt<W: fmt::Write>(&self, f: &mut fmt::Formatter<W>) -> fmt::Result {
+        match self {
+            WriteError::Faulty(fault) => write!(f, "{fault}"),
+            WriteError::TooSmall => write!(f, "the buffer is too small"),
+        }
+    }
+}
+
+impl Error for WriteError {}
 
 impl From<Fault> for WriteError {
     ghost from_gives = { λ f r. r ≡ write.Faulty f };

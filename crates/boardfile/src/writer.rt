@@ -1,5 +1,5 @@
 // The writer of a board file.
-ghost use Rattle.std.specs.Prelude.{◌≡◌, ℕ, ◌+◌, ◌*◌, ◌≤◌, List, [], ◌∷◌, ◌++◌, length, take, drop, IfOk, Decides, MatchOption, MatchResult};
+ghost use Rattle.std.specs.Prelude.{◌≡◌, ℕ, ◌+◌, ◌*◌, ◌≤◌, List, [], ◌∷◌, ◌++◌, length, take, drop, ◌↔◌, IfOk, IfErr, OnOk, IfNone, IfSome, IsTrue};
 ghost use Rattle.std.specs.List.{flat_map};
 ghost use Rattle.boardfile.specs.Layout.{event_bytes, events_bytes, settings_bytes};
 ghost use Rattle.boardfile.specs.Fits.{EventFits, EventsFit, Fits};
@@ -7,14 +7,13 @@ ghost use Rattle.boardfile.specs.Faults.{UnfitAt, Unwritable};
 ghost use Rattle.boardfile.specs.Reads.{ReadsAs};
 ghost use Rattle.boardfile.specs.Writes.{Measures, Writes};
 
-use crate::fault::{Fault, FaultKind, WriteError};
+use crate::count::put_count;
+use crate::fault::{Fault, FaultKind, Section, WriteError};
 use crate::parts::{BoardFile, MOST_EVENTS, Settings};
-use crate::{event, settings};
+use crate::{count, event, settings};
 use calls::call::Call;
 
-// The bytes of a count, and those of the first section.
-const COUNT: usize = 2;
-
+// The bytes of the first section.
 const FIRST_SECTION: usize = 10;
 
 // Writes an event's record at the start of the buffer.
@@ -22,8 +21,7 @@ fn put_event(event: Call, buf: &mut [u8])
     requires { 6 ≤ length buf.old }
     ensures { buf.new ≡ event_bytes event ++ drop 6 buf.old }
 {
-    let record = event::encode(event);
-    buf[0..event::LEN].copy_from_slice(&record);
+    buf[..event::LEN].copy_from_slice(&event::encode(event));
 }
 
 // Writes the records of the events, one after another.
@@ -42,10 +40,8 @@ fn put_events(events: &[Call], buf: &mut [u8])
     requires room { 2 + 6 * length events.now ≤ length buf.old }
     ensures { buf.new ≡ events_bytes events.now ++ drop (2 + 6 * length events.now) buf.old }
 {
-    let [high, low] = (events.len() as u16).to_be_bytes();
-    buf[0] = high;
-    buf[1] = low;
-    put_records(events, &mut buf[COUNT..]);
+    put_count(events.len() as u16, buf);
+    put_records(events, &mut buf[count::LEN..]);
 }
 
 // Writes the settings section at the start of the buffer.
@@ -53,14 +49,12 @@ fn put_settings(settings: Settings, buf: &mut [u8])
     requires { 10 ≤ length buf.old }
     ensures { buf.new ≡ 0 ∷ 1 ∷ (settings_bytes settings ++ drop 10 buf.old) }
 {
-    let record = settings::encode(settings);
-    buf[0] = 0;
-    buf[1] = 1;
-    buf[COUNT..FIRST_SECTION].copy_from_slice(&record);
+    put_count(1, buf);
+    buf[count::LEN..FIRST_SECTION].copy_from_slice(&<[u8; 8]>::from(settings));
 }
 
 fn fits(event: Call) -> bool
-    ensures { Decides result (EventFits event) }
+    ensures { IsTrue result ↔ EventFits event }
 {
     match event {
         Call::Done { mark, .. } => mark <= 1,
@@ -70,42 +64,34 @@ fn fits(event: Call) -> bool
 
 // The index of the first event that does not fit.
 fn first_unfit(events: &[Call]) -> Option<usize>
-    ensures { MatchOption result (EventsFit events.now) (UnfitAt events.now) }
+    ensures none { IfNone result (EventsFit events.now) }
+    ensures first { IfSome result (UnfitAt events.now) }
 {
-    for (index, event) in events.iter().enumerate() {
-        if !fits(*event) {
-            return Some(index);
-        }
-    }
-    None
+    events.iter().position(|event| !fits(*event))
 }
 
 // The reader's tests of the parts.
 fn check(file: &BoardFile) -> Result<(), Fault>
-    ensures { MatchResult result (λ _. Fits file.now) (Unwritable file.now) }
+    ensures fit { OnOk result (Fits file.now) }
+    ensures first { IfErr result (Unwritable file.now) }
 {
     settings::check(file.settings)?;
     if file.events.len() > MOST_EVENTS as usize {
-        return Err(Fault {
-            kind: FaultKind::Count,
-            place: (2, 0),
-        });
+        return Err(Fault::new(FaultKind::Count, Section::Events, 0));
     }
     match first_unfit(file.events.as_slice()) {
-        Some(index) => Err(Fault {
-            kind: FaultKind::Unfit,
-            place: (2, index as u16),
-        }),
+        Some(index) => Err(Fault::new(FaultKind::Unfit, Section::Events, index as u16)),
         None => Ok(()),
     }
 }
 
 // The length of the file, if its parts pass the tests.
 fn measure(file: &BoardFile) -> Result<usize, Fault>
-    ensures { MatchResult result (λ n. Measures file.now n) (Unwritable file.now) }
+    ensures measured { IfOk result (Measures file.now) }
+    ensures first { IfErr result (Unwritable file.now) }
 {
     check(file)?;
-    Ok(FIRST_SECTION + COUNT + event::LEN * file.events.len())
+    Ok(FIRST_SECTION + count::LEN + event::LEN * file.events.len())
 }
 
 // Writes the file at the start of the buffer, and answers its length.

@@ -16,8 +16,9 @@ pub(crate) fn refused(
     match read(heap, bytes) {
         Ok(_) => Err(Fail::new("a faulty file was read")),
         Err(ReadError::Faulty(fault)) => {
+            let (section, index) = fault.place;
             assert_eq!(rt; fault.kind.number(), number);
-            assert_eq!(rt; fault.place, place);
+            assert_eq!(rt; (section.number(), index), place);
             Ok(())
         }
         Err(ReadError::NoMemory) => Err(Fail::new("no memory")),

@@ -31,8 +31,8 @@ fn dones(heap: Global, mark: u8, count: usize) -> Result<BoardFile, AllocError> 
     })
 }
 
-fn faulty(kind: FaultKind, place: (u8, u16)) -> Result<usize, WriteError> {
-    Err(WriteError::Faulty(Fault { kind, place }))
+fn faulty(kind: FaultKind, section: Section) -> Result<usize, WriteError> {
+    Err(WriteError::Faulty(Fault::new(kind, section, 0)))
 }
 
 #[test]
@@ -62,14 +62,29 @@ fn refuses_its_parts(rt: HostRuntime) -> Result<(), Fail> {
     let mut file = dones(heap, 2, 4097)?;
     // Each fault comes before the next, and all before a buffer that is too small.
     file.settings = settings(33, 0, 0);
-    assert_eq!(rt; write(&file, &mut none), faulty(FaultKind::Clients, (1, 0)));
+    assert_eq!(rt;
+        write(&file, &mut none),
+        faulty(FaultKind::Clients, Section::Settings)
+    );
     file.settings = settings(4, 3, 0);
-    assert_eq!(rt; write(&file, &mut none), faulty(FaultKind::Places, (1, 0)));
+    assert_eq!(rt;
+        write(&file, &mut none),
+        faulty(FaultKind::Places, Section::Settings)
+    );
     file.settings = settings(4, 4, 0);
-    assert_eq!(rt; write(&file, &mut none), faulty(FaultKind::Tasks, (1, 0)));
+    assert_eq!(rt;
+        write(&file, &mut none),
+        faulty(FaultKind::Tasks, Section::Settings)
+    );
     file.settings = settings(4, 4, 1);
-    assert_eq!(rt; write(&file, &mut none), faulty(FaultKind::Count, (2, 0)));
+    assert_eq!(rt;
+        write(&file, &mut none),
+        faulty(FaultKind::Count, Section::Events)
+    );
     let _ = file.events.pop();
-    assert_eq!(rt; write(&file, &mut none), faulty(FaultKind::Unfit, (2, 0)));
+    assert_eq!(rt;
+        write(&file, &mut none),
+        faulty(FaultKind::Unfit, Section::Events)
+    );
     Ok(())
 }

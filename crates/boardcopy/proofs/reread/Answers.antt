@@ -14,5 +14,5 @@ returns-in_err-again c =
     let w = c.in_ok-len.ensures in
     let front : n ≡ n - 0 = omega arith in
     let r : Reads (take (n - 0) c.write.new.buf) file.settings (vec_items file.events) = rw front at w.reads_back in
-    let holds : Holds file old c.write.new.buf = w.answer.3 ∙ ap (λ (k : ℕ). layout file ++ drop k old) w.answer.1 in
+    let holds : Holds file old c.write.new.buf = w.answer.holds ∙ ap (λ (k : ℕ). layout file ++ drop k old) w.answer.len in
     rw (p.1, p.2) (c.in_err-again.ensures.only _ _ r, holds)

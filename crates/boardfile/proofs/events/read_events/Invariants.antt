@@ -6,4 +6,8 @@ use Rattle.boardfile.proofs.events.read_events.Given as goal
 
 -- the events so far, and what is left
 abbrev pub invariant-loop-index : goal.invariant-loop-index
-invariant-loop-index l = (drop 2 l.bytes ≡ flat_map event_bytes (vec_items l.events) ++ l.rest) × (length (vec_items l.events) ≡ l.index) × EventsFit (vec_items l.events)
+invariant-loop-index l = record {
+  layout : drop 2 l.bytes ≡ flat_map event_bytes (vec_items l.events) ++ l.rest;
+  counted : length (vec_items l.events) ≡ l.index;
+  fit : EventsFit (vec_items l.events);
+}

@@ -10,17 +10,17 @@ pub returns-in_err-settings : goal.returns-in_err-settings
 returns-in_err-settings c =
     let b = c.args.bytes.now in
     let p = err_from_is_err_and c.from_residual.result c.from_residual.ensures.1 in
-    rw (p.1, p.2) (refused b _ (settings_fault b (EventsFaulty (drop 10 b)) _ c.in_err-settings.ensures))
+    rw (p.1, p.2) (refused b _ (settings_fault b (EventsFaulty (drop 10 b)) _ c.in_err-settings.ensures.first))
 
 pub returns-in_err-events : goal.returns-in_err-events
 returns-in_err-events c =
     let p = err_from_is_err_and c.from_residual-in_err-events.result c.from_residual-in_err-events.ensures.1 in
     let q = c.in_ok-settings.ensures in
-    rw (p.1, p.2) (refused _ _ (events_refusal _ _ _ _ q.0 q.1 c.in_err-events.ensures))
+    rw (p.1, p.2) (refused _ _ (events_refusal _ _ _ _ q.layout q.fit c.in_err-events.ensures.refused))
 
 pub returns : goal.returns
 returns c =
     let s = c.in_ok-settings.settings in
     let p = c.in_ok-settings.ensures in
     let q = c.in_ok-events.ensures in
-    accepted _ _ (p.0 ∙ ap (λ (t : List ℕ). 0 ∷ 1 ∷ (settings_bytes s ++ t)) q.0, (p.1, q.1, q.2))
+    accepted _ _ (p.layout ∙ ap (λ (t : List ℕ). 0 ∷ 1 ∷ (settings_bytes s ++ t)) q.layout, (p.fit, q.allowed, q.fit))

@@ -1,10 +1,10 @@
-use Rattle.std.proofs.Common.{vec_items, refl, inl, inr, rules}
+use Rattle.std.proofs.Common.{vec_items, inl, inr, rules}
 use Rattle.boardfile.specs.Faults.{UnfitAt}
 use Rattle.boardfile.proofs.Records.{not_all_fit}
 use Rattle.boardfile.proofs.writer.check.Goals as goal
 
-pub returns-in-Some : goal.returns-in-Some
-returns-in-Some c =
-    let h = c.in_ok-check.ensures in
-    let u : UnfitAt (vec_items c.args.file.now.events) c.in-Some.index = rw c.as_slice.ensures.value at c.in-Some.ensures in
-    inr (h.0, inr (h.1, inr (h.2, inr (search rules, inl (not_all_fit _ _ u, (_, u, refl))))))
+pub returns-in-Some-clause-first : goal.returns-in-Some-clause-first
+returns-in-Some-clause-first c =
+    let h = c.in_ok-check.ensures.fit in
+    let u : UnfitAt (vec_items c.args.file.now.events) c.in-Some.index = search rules in
+    inr (h.0, inr (h.1, inr (h.2, inr (search rules, inl (not_all_fit _ _ u, (_, u, search rules))))))
