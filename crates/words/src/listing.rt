@@ -3,8 +3,6 @@ ghost use Rattle.std.specs.Prelude.{◌≡◌, ℕ, List, ◌++◌, take, IfOk, 
 ghost use Rattle.words.specs.Lists.{Lists, Tells};
 ghost use Rattle.words.specs.Words.{event_line, event_lines, listing};
 
-use crate::fault::FaultWords;
-use crate::settings::SettingsWords;
 use boardfile::fault::ReadError;
 use boardfile::parts::BoardFile;
 use boardfile::reader::read;
@@ -31,8 +29,7 @@ fn add_events(text: &mut String, events: &[Call]) -> Result<(), AllocError>
 pub fn list_parts(heap: Global, file: &BoardFile) -> Result<String, AllocError>
     ensures { IfOk result (λ text. string_bytes text ≡ listing file.now.settings file.now.events.items) }
 {
-    let settings = SettingsWords(file.settings);
-    let mut text = format!(in heap; "{settings}\n")?;
+    let mut text = format!(in heap; "{}\n", file.settings)?;
     add_events(&mut text, file.events.as_slice())?;
     Ok(text)
 }
@@ -42,10 +39,7 @@ fn list_error(heap: Global, error: ReadError) -> Result<String, AllocError>
     ensures { IfOk result (λ text. Tells error (string_bytes text)) }
 {
     match error {
-        ReadError::Faulty(fault) => {
-            let fault = FaultWords(fault);
-            format!(in heap; "{fault}\n")
-        }
+        ReadError::Faulty(fault) => format!(in heap; "{fault}\n"),
         ReadError::NoMemory => Err(AllocError),
     }
 }
