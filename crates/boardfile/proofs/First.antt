@@ -56,7 +56,7 @@ one_settings b later h =
     (subst (λ (s : Settings). SettingsChecks s later g) (same_settings y.0 x.0 y.1 x.1 (sym y.2 ∙ x.2)).0 y.3)))))
 
 clean_settings_checks : (s : Settings) (later : Fault → Type 0) → SettingsFit s → Clean later → Clean (SettingsChecks s later)
-clean_settings_checks s later h c = clean_check _ _ _ h.0 (clean_check _ _ _ h.1 (clean_check _ _ _ h.2 c))
+clean_settings_checks s later h c = clean_check _ _ _ h.clients (clean_check _ _ _ h.places (clean_check _ _ _ h.tasks c))
 
 -- the length of a file whose first section ends in t
 section_length : (s : Settings) (t : List ℕ) → length (0 ∷ 1 ∷ (settings_bytes s ++ t)) ≡ 10 + length t
@@ -90,7 +90,7 @@ settings_fault b later f (inr (p, inr (q, inr (r, inr (u, (s, t, e, a)))))) = in
 pub later_fault : (b : List ℕ) (s : Settings) (t : List ℕ) (later : Fault → Type 0) (f : Fault) → b ≡ 0 ∷ 1 ∷ (settings_bytes s ++ t) → SettingsFit s → later f → SettingsFaulty b later f
 later_fault b s t later f e h x =
     let l = section_length s t in
-    rw e (inr (omega arith, inr (refl, inr (omega arith, inr ((s, t, refl, tt), (s, t, refl, inr (h.0, inr (h.1, inr (h.2, x)))))))))
+    rw e (inr (omega arith, inr (refl, inr (omega arith, inr ((s, t, refl, tt), (s, t, refl, inr (h.clients, inr (h.places, inr (h.tasks, x)))))))))
 
 -- what follows the first section
 pub second_section : (b : List ℕ) (s : Settings) (t : List ℕ) → b ≡ 0 ∷ 1 ∷ (settings_bytes s ++ t) → drop 10 b ≡ t
@@ -116,7 +116,7 @@ clean_events es h fit =
     let n = two_bytes (length es) in
     let l = events_length es in
     clean_check _ _ _ (omega arith) (clean_check _ _ _ (omega arith) (clean_check _ _ _ (omega arith)
-    (clean_check _ _ _ ([], (es, sym n, fit, sym (append-nil (flat_map event_bytes es)))) (clean_check _ _ _ (omega arith) (λ f x. x)))))
+    (clean_check _ _ _ ([], record { events = es; counted = sym n; fit = fit; stand = sym (append-nil (flat_map event_bytes es)) }) (clean_check _ _ _ (omega arith) (λ f x. x)))))
 
 -- ---- the file
 
@@ -126,7 +126,7 @@ one_file b = one_settings b (EventsFaulty (drop 10 b)) (one_events (drop 10 b))
 clean_file : (s : Settings) (es : List Call) → FileFits s es → Clean (FileFaulty (file_bytes s es))
 clean_file s es h =
     let d = second_section (file_bytes s es) s (events_bytes es) refl in
-    clean_settings s (events_bytes es) _ h.0 (rw d (clean_events es h.1 h.2))
+    clean_settings s (events_bytes es) _ h.settings (rw d (clean_events es h.count h.events))
 
 -- ---- what a reader's answer settles
 

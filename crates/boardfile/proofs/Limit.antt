@@ -64,15 +64,20 @@ settings_longer u z later later' f h m (inr (p, inr (q, inr (r, inr (some, (s, t
 -- ---- the second section
 
 events_forth : (u z t : List ℕ) (n : ℕ) → 2 ≤ length u → HasEvents u n t → HasEvents (u ++ z) n (t ++ z)
-events_forth u z t n h (es, k, fit, e) =
-    (es, k, fit, behind u z h ∙ ap (λ (l : List ℕ). l ++ z) e ∙ append_assoc (flat_map event_bytes es) t z)
+events_forth u z t n h has = record {
+  events = has.events;
+  counted = has.counted;
+  fit = has.fit;
+  stand = behind u z h ∙ ap (λ (l : List ℕ). l ++ z) has.stand ∙ append_assoc (flat_map event_bytes has.events) t z;
+}
 
 events_back : (u z t : List ℕ) (n : ℕ) → 2 + 6 * n ≤ length u → HasEvents (u ++ z) n t → (t' : List ℕ) × HasEvents u n t'
-events_back u z t n h (es, k, fit, e) =
-    let l = events_length es in
+events_back u z t n h has =
+    let k = has.counted in
+    let l = events_length has.events in
     let d = length-drop 2 u in
-    let q = prefix (drop 2 u) z (flat_map event_bytes es) t (sym (behind u z (omega arith)) ∙ e) (omega arith) in
-    (q.0, (es, k, fit, q.1))
+    let q = prefix (drop 2 u) z (flat_map event_bytes has.events) t (sym (behind u z (omega arith)) ∙ has.stand) (omega arith) in
+    (q.0, record { events = has.events; counted = k; fit = has.fit; stand = q.1 })
 
 -- six bytes that are no event are none with more behind them
 no_event_longer : (t z : List ℕ) → 6 ≤ length t → NoEvent t → NoEvent (t ++ z)
@@ -86,9 +91,9 @@ unfit_longer u z n f h not (i, t, has, none, e) =
     elim (cases_lt i n) [
       | inr more ↦ absurd (not (fewer u t n i more has))
       | inl l ↦
-          let a = events_length has.0 in
-          let b = has.1 in
-          let c = ap length has.3 ∙ length-append (flat_map event_bytes has.0) t in
+          let a = events_length has.events in
+          let b = has.counted in
+          let c = ap length has.stand ∙ length-append (flat_map event_bytes has.events) t in
           let d = length-drop 2 u in
           (i, t ++ z, events_forth u z t i (omega arith) has, no_event_longer t z (omega arith) none, e)
     ]
@@ -159,7 +164,7 @@ pub input_reads : (limit : ℕ) (input : List ℕ) (s : Settings) (es : List Cal
 input_reads limit input s es h r =
     elim (halves limit input h) [
       | inl e ↦ subst (λ (b : List ℕ). Reads b s es) e r
-      | inr l ↦ let n = file_length s es in let k = ap length r.0 in let m = r.1.1 in absurd (omega arith)
+      | inr l ↦ let n = file_length s es in let k = ap length r.0 in let m = r.1.count in absurd (omega arith)
     ]
 
 pub input_refused : (limit : ℕ) (input : List ℕ) (e : ReadError) → 24588 < limit → ReadRefused (take limit input) e → ReadRefused input e

@@ -34,14 +34,17 @@ not_all_fit es i u h = u.2 (All-take EventFits (i + 1) es h)
 
 -- where i events stand, fewer do
 pub fewer : (u t : List ℕ) (n i : ℕ) → n ≤ i → HasEvents u i t → (t' : List ℕ) × HasEvents u n t'
-fewer u t n i l (es, k, fit, e) = (
-  flat_map event_bytes (drop n es) ++ t,
-  (
-    take n es,
-    length-take-le n es (omega arith),
-    All-take EventFits n es fit,
-    e ∙ ap (λ (xs : List Call). flat_map event_bytes xs ++ t) (sym (take-append-drop n es))
-        ∙ ap (λ (l : List ℕ). l ++ t) (flat_map-append event_bytes (take n es) (drop n es))
-        ∙ append_assoc (flat_map event_bytes (take n es)) (flat_map event_bytes (drop n es)) t,
-  ),
-)
+fewer u t n i l has =
+    let es = has.events in
+    let k = has.counted in (
+      flat_map event_bytes (drop n es) ++ t,
+      record {
+        events = take n es;
+        counted = length-take-le n es (omega arith);
+        fit = All-take EventFits n es has.fit;
+        stand = has.stand
+            ∙ ap (λ (xs : List Call). flat_map event_bytes xs ++ t) (sym (take-append-drop n es))
+            ∙ ap (λ (l : List ℕ). l ++ t) (flat_map-append event_bytes (take n es) (drop n es))
+            ∙ append_assoc (flat_map event_bytes (take n es)) (flat_map event_bytes (drop n es)) t;
+      },
+    )

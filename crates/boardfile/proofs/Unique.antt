@@ -88,7 +88,10 @@ follows (e ∷ es) (e' ∷ es') t t' h n p none =
 
 -- nothing that fits stands past the first record that does not
 pub none_past : (b t t' : List ℕ) (n i : ℕ) → HasEvents b n t → HasEvents b i t' → NoEvent t' → i < n → ⊥
-none_past b t t' n i p q none l = follows p.0 q.0 t t' p.2 (omega arith) (sym p.3 ∙ q.3) none
+none_past b t t' n i p q none l =
+    let m = p.counted in
+    let k = q.counted in
+    follows p.events q.events t t' p.fit (omega arith) (sym p.stand ∙ q.stand) none
 
 -- ---- settings
 

@@ -14,7 +14,7 @@ use crate::{count, event, settings};
 use calls::call::Call;
 
 // The bytes of the first section.
-const FIRST_SECTION: usize = 10;
+const FIRST_SECTION: usize = count::LEN + settings::LEN;
 
 // Writes an event's record at the start of the buffer.
 fn put_event(event: Call, buf: &mut [u8])

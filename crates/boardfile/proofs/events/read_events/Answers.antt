@@ -16,7 +16,7 @@ pub returns-in_default-clause-refused : goal.returns-in_default-clause-refused
 returns-in_default-clause-refused c =
     let b = c.args.bytes.now in
     let l = c.loop-index in
-    let here : HasEvents b l.index l.rest.now = (_, l.invariant.counted, l.invariant.fit, l.invariant.layout) in
+    let here : HasEvents b l.index l.rest.now = record { events = _; counted = l.invariant.counted; fit = l.invariant.fit; stand = l.invariant.layout } in
     let none = c.in_default.ensures.none in
     rw (c.into-in_default.ensures, c.new-in_default.ensures)
     (inr (search rules, inr (search rules, inr (search rules, inl (λ q. none_past b q.0 _ _ _ q.1 here none (search rules), (_, _, here, none, refl))))))
@@ -29,7 +29,12 @@ returns-in_err-push-clause-refused c =
     let e = c.in-Ok.event in
     let q = c.in-Ok.ensures in
     let here : HasEvents b (l.index + 1) c.in-Ok.more.now =
-    (es ++ e ∷ [], length_push es e ∙ ap (λ n. n + 1) l.invariant.counted, All-push EventFits es e l.invariant.fit q.fits, events_more _ es e _ _ l.invariant.layout q.layout) in
+    record {
+      events = es ++ e ∷ [];
+      counted = length_push es e ∙ ap (λ n. n + 1) l.invariant.counted;
+      fit = All-push EventFits es e l.invariant.fit q.fits;
+      stand = events_more _ es e _ _ l.invariant.layout q.layout;
+    } in
     let p = err_from_is_err_and c.from_residual-in_err-push.result c.from_residual-in_err-push.ensures.1 in
     rw (p.1, p.2) (record { counted = search rules; allowed = search rules; whole = search rules; some = search rules; event = fewer b _ 1 _ (omega arith) here })
 
@@ -46,4 +51,4 @@ returns-then-not-is_empty-clause-refused c =
     let dropped = length-drop 2 b in
     let at : At Trailing Events (count_of b) c.new-then-not-is_empty.result = search rules in
     rw c.into-then-not-is_empty.ensures
-    (inr (search rules, inr (search rules, inr (search rules, inr ((rest, (es, n, l.invariant.fit, l.invariant.layout)), inl (λ e. omega arith, at))))))
+    (inr (search rules, inr (search rules, inr (search rules, inr ((rest, record { events = es; counted = n; fit = l.invariant.fit; stand = l.invariant.layout }), inl (λ e. omega arith, at))))))

@@ -23,4 +23,4 @@ returns c =
     let s = c.in_ok-settings.settings in
     let p = c.in_ok-settings.ensures in
     let q = c.in_ok-events.ensures in
-    accepted _ _ (p.layout ∙ ap (λ (t : List ℕ). 0 ∷ 1 ∷ (settings_bytes s ++ t)) q.layout, (p.fit, q.allowed, q.fit))
+    accepted _ _ (p.layout ∙ ap (λ (t : List ℕ). 0 ∷ 1 ∷ (settings_bytes s ++ t)) q.layout, record { settings = p.fit; count = q.allowed; events = q.fit })
