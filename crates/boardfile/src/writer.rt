@@ -86,6 +86,7 @@ fn check(file: &BoardFile) -> Result<(), Fault>
 }
 
 // The length of the file, if its parts pass the tests.
+#[tactic(auto, using(crate::proofs::Lends::file_length))]
 fn measure(file: &BoardFile) -> Result<usize, Fault>
     ensures measured { IfOk result (Measures file.now) }
     ensures first { IfErr result (Unwritable file.now) }
