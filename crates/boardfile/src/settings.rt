@@ -64,7 +64,7 @@ pub(crate) fn check(settings: Settings) -> Result<(), Fault>
     if !(least..=clients).contains(&places) {
         return Err(Fault::new(FaultKind::Places, Section::Settings, 0));
     }
-    if tasks < 1 {
+    if tasks == 0 {
         return Err(Fault::new(FaultKind::Tasks, Section::Settings, 0));
     }
     Ok(())
