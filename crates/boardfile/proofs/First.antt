@@ -1,20 +1,18 @@
 -- The first fault of bytes: there is at most one, and none where the bytes read as parts. Assumes nothing.
-use Rattle.std.proofs.Common.{◌≡◌, ℕ, ◌+◌, ◌≤◌, ◌⊎◌, List, [], ◌∷◌, ◌++◌, length, drop, sym, refl, ap, ◌∙◌, subst, inl, inr, arith}
+use Rattle.std.proofs.Common.{rules, ◌≡◌, ℕ, ◌+◌, ◌≤◌, ◌⊎◌, List, [], ◌∷◌, ◌++◌, length, drop, sym, refl, ap, ◌∙◌, subst, inl, inr, arith}
 use Rattle.std.specs.List.{flat_map}
-use Rattle.std.proofs.lemmas.List.{drop_at, append-nil, length-append}
-use Rattle.std.proofs.lemmas.Bool.{cases_order}
+use Rattle.std.proofs.lemmas.List.{append-nil}
+use Rattle.std.proofs.lemmas.Grind.{common_steps}
 use Rattle.calls.specs.declared.call.Call.{Call}
 use Rattle.boardfile.specs.declared.parts.Settings.{Settings}
 use Rattle.boardfile.specs.declared.fault.FaultKind.{FaultKind}
 use Rattle.boardfile.specs.declared.fault.Section.{Section}
-use Rattle.boardfile.specs.declared.fault.Section.TheVariants as section
-use Rattle.boardfile.specs.declared.fault.FaultKind.TheVariants.{Unfit}
 use Rattle.boardfile.specs.declared.fault.Fault.{Fault}
 use Rattle.boardfile.specs.declared.fault.ReadError.{ReadError}
 use Rattle.boardfile.specs.declared.fault.ReadError.TheVariants.{Faulty, NoMemory}
 use Rattle.boardfile.specs.Layout.{settings_bytes, event_bytes, events_bytes, file_bytes}
 use Rattle.boardfile.specs.Fits.{SettingsFit, EventsFit, FileFits}
-use Rattle.boardfile.specs.Faults.{Check, NoFault, At, FirstUnfit, SettingsChecks, SettingsFaulty, EventsFaulty, FileFaulty, ReadRefused, EventsRefused}
+use Rattle.boardfile.specs.Faults.{Check, NoFault, At, count_of, HasEvents, FirstUnfit, SettingsChecks, SettingsFaulty, EventsFaulty, FileFaulty, ReadRefused, EventsRefused}
 use Rattle.boardfile.specs.Reads.{Reads}
 use Rattle.boardfile.proofs.Unique.{two_bytes, same_settings, same_file, settings_length, events_length, none_past}
 
@@ -29,17 +27,13 @@ Clean F = (f : Fault) → F f → ⊥
 -- ---- one test, and those after it
 
 one_check : (P : Type 0) (F later : Fault → Type 0) → One F → One later → One (Check P F later)
-one_check P F later a b f g (inl x) (inl y) = a f g x.1 y.1
-one_check P F later a b f g (inl x) (inr y) = absurd (x.0 y.0)
-one_check P F later a b f g (inr x) (inl y) = absurd (y.0 x.0)
-one_check P F later a b f g (inr x) (inr y) = b f g x.1 y.1
+one_check P F later a b f g x y = grind arith
 
 clean_check : (P : Type 0) (F later : Fault → Type 0) → P → Clean later → Clean (Check P F later)
-clean_check P F later p c f (inl x) = x.0 p
-clean_check P F later p c f (inr x) = c f x.1
+clean_check P F later p c f x = grind arith
 
 one_at : (kind : FaultKind) (section : Section) (index : ℕ) → One (At kind section index)
-one_at kind section index f g p q = p ∙ sym q
+one_at kind section index f g p q = cc
 
 one_none : One NoFault
 one_none f g p q = absurd p
@@ -56,14 +50,11 @@ one_settings b later h =
     (subst (λ (s : Settings). SettingsChecks s later g) (same_settings y.0 x.0 y.1 x.1 (sym y.2 ∙ x.2)).0 y.3)))))
 
 clean_settings_checks : (s : Settings) (later : Fault → Type 0) → SettingsFit s → Clean later → Clean (SettingsChecks s later)
-clean_settings_checks s later h c = clean_check _ _ _ h.0 (clean_check _ _ _ h.1 (clean_check _ _ _ h.2 c))
+clean_settings_checks s later h c = clean_check _ _ _ h.clients (clean_check _ _ _ h.places (clean_check _ _ _ h.tasks c))
 
 -- the length of a file whose first section ends in t
 section_length : (s : Settings) (t : List ℕ) → length (0 ∷ 1 ∷ (settings_bytes s ++ t)) ≡ 10 + length t
-section_length s t =
-    let l = settings_length s in
-    let a = length-append (settings_bytes s) t in
-    omega arith
+section_length s t = grind (arith, common_steps, settings_length)
 
 clean_settings : (s : Settings) (t : List ℕ) (later : Fault → Type 0) → SettingsFit s → Clean later → Clean (SettingsFaulty (0 ∷ 1 ∷ (settings_bytes s ++ t)) later)
 clean_settings s t later h c =
@@ -73,38 +64,24 @@ clean_settings s t later h c =
 
 -- what comes after the tests of the settings, put for what came there
 pub checks_map : (s : Settings) (later later' : Fault → Type 0) (f : Fault) → (later f → later' f) → SettingsChecks s later f → SettingsChecks s later' f
-checks_map s later later' f m (inl a) = inl a
-checks_map s later later' f m (inr (p, inl a)) = inr (p, inl a)
-checks_map s later later' f m (inr (p, inr (q, inl a))) = inr (p, inr (q, inl a))
-checks_map s later later' f m (inr (p, inr (q, inr (r, a)))) = inr (p, inr (q, inr (r, m a)))
+checks_map s later later' f m x = grind arith
 
 -- a fault of the settings is one of the file
 pub settings_fault : (b : List ℕ) (later : Fault → Type 0) (f : Fault) → SettingsFaulty b NoFault f → SettingsFaulty b later f
-settings_fault b later f (inl a) = inl a
-settings_fault b later f (inr (p, inl a)) = inr (p, inl a)
-settings_fault b later f (inr (p, inr (q, inl a))) = inr (p, inr (q, inl a))
-settings_fault b later f (inr (p, inr (q, inr (r, inl a)))) = inr (p, inr (q, inr (r, inl a)))
-settings_fault b later f (inr (p, inr (q, inr (r, inr (u, (s, t, e, a)))))) = inr (p, inr (q, inr (r, inr (u, (s, t, e, checks_map s NoFault later f (λ x. absurd x) a)))))
+settings_fault b later f x = search rules
 
 -- a fault behind settings that fit is one of the file
 pub later_fault : (b : List ℕ) (s : Settings) (t : List ℕ) (later : Fault → Type 0) (f : Fault) → b ≡ 0 ∷ 1 ∷ (settings_bytes s ++ t) → SettingsFit s → later f → SettingsFaulty b later f
-later_fault b s t later f e h x =
-    let l = section_length s t in
-    rw e (inr (omega arith, inr (refl, inr (omega arith, inr ((s, t, refl, tt), (s, t, refl, inr (h.0, inr (h.1, inr (h.2, x)))))))))
+later_fault b s t later f e h x = search rules
 
 -- what follows the first section
 pub second_section : (b : List ℕ) (s : Settings) (t : List ℕ) → b ≡ 0 ∷ 1 ∷ (settings_bytes s ++ t) → drop 10 b ≡ t
-second_section b s t e = ap (λ (x : List ℕ). drop 10 x) e ∙ drop_at (settings_bytes s) t 8 (settings_length s)
+second_section b s t e = grind (arith, common_steps)
 
 -- ---- the second section
 
 one_unfit : (b : List ℕ) → One (FirstUnfit b)
-one_unfit b f g (i, t, has, none, e) (j, u, has', none', e') =
-    elim (cases_order i j) [
-      | inl p ↦ e ∙ ap (λ (k : ℕ). record { kind = Unfit; place = (section.Events, k) }) p ∙ sym e'
-      | inr (inl l) ↦ absurd (none_past b u t j i has' has none l)
-      | inr (inr l) ↦ absurd (none_past b t u i j has has' none' l)
-    ]
+one_unfit b f g (i, t, has, none, e) (j, u, has', none', e') = grind (arith, none_past b u t j i has' has none, none_past b t u i j has has' none')
 
 one_events : (b : List ℕ) → One (EventsFaulty b)
 one_events b =
@@ -112,11 +89,11 @@ one_events b =
     (one_check _ _ _ (one_at _ _ _) one_none))))
 
 clean_events : (es : List Call) → length es ≤ 4096 → EventsFit es → Clean (EventsFaulty (events_bytes es))
-clean_events es h fit =
+clean_events es h fit f x =
     let n = two_bytes (length es) in
     let l = events_length es in
-    clean_check _ _ _ (omega arith) (clean_check _ _ _ (omega arith) (clean_check _ _ _ (omega arith)
-    (clean_check _ _ _ ([], (es, sym n, fit, sym (append-nil (flat_map event_bytes es)))) (clean_check _ _ _ (omega arith) (λ f x. x)))))
+    let all : HasEvents (events_bytes es) (count_of (events_bytes es)) [] = record { events = es; counted = sym n; fit = fit; stand = sym (append-nil (flat_map event_bytes es)) } in
+    grind arith
 
 -- ---- the file
 
@@ -126,7 +103,7 @@ one_file b = one_settings b (EventsFaulty (drop 10 b)) (one_events (drop 10 b))
 clean_file : (s : Settings) (es : List Call) → FileFits s es → Clean (FileFaulty (file_bytes s es))
 clean_file s es h =
     let d = second_section (file_bytes s es) s (events_bytes es) refl in
-    clean_settings s (events_bytes es) _ h.0 (rw d (clean_events es h.1 h.2))
+    clean_settings s (events_bytes es) _ h.settings (rw d (clean_events es h.count h.events))
 
 -- ---- what a reader's answer settles
 
@@ -151,4 +128,4 @@ only_parts b s s' es es' p q = same_file s s' es es' (sym p.0 ∙ q.0)
 -- a refusal of the second section, behind settings that fit, is one of the file
 pub events_refusal : (b : List ℕ) (s : Settings) (t : List ℕ) (e : ReadError) → b ≡ 0 ∷ 1 ∷ (settings_bytes s ++ t) → SettingsFit s → EventsRefused t e → ReadRefused b e
 events_refusal b s t (Faulty f) p h x = later_fault b s t (EventsFaulty (drop 10 b)) f p h (rw (second_section b s t p) x)
-events_refusal b s t NoMemory p h x = ((s, t, p, h), rw (second_section b s t p) x)
+events_refusal b s t NoMemory p h x = search (rules, second_section b s t p)

@@ -1,5 +1,4 @@
 pub mod First
-pub mod Fronts
 pub mod Judged
 pub mod Lends
 pub mod Limit

@@ -1,7 +1,8 @@
 -- No file is longer than 24,588 bytes, so one byte more of an input settles how all of it reads. Assumes nothing.
-use Rattle.std.proofs.Common.{◌≡◌, ℕ, ◌+◌, ◌*◌, ◌<◌, ◌≤◌, ◌⊎◌, List, [], ◌∷◌, ◌++◌, length, get_or, take, drop, sym, refl, ap, ◌∙◌, subst, inl, inr, arith}
+use Rattle.std.proofs.Common.{rules, ◌≡◌, ℕ, ◌+◌, ◌*◌, ◌<◌, ◌≤◌, ◌⊎◌, List, [], ◌∷◌, ◌++◌, length, take, drop, sym, refl, ap, ◌∙◌, subst, inl, inr, arith}
 use Rattle.std.specs.List.{flat_map}
-use Rattle.std.proofs.lemmas.List.{append_assoc, drop-append-le, get_or_append_left, length-append, length-drop, length-take-le, take_all, take-append-drop}
+use Rattle.std.proofs.lemmas.List.{append_assoc, drop-append-le, length-append, length-drop, length-take-le, take_all, take-append-drop}
+use Rattle.std.proofs.lemmas.Grind.{common_steps}
 use Rattle.std.proofs.lemmas.Bool.{cases_lt}
 use Rattle.calls.specs.declared.call.Call.{Call}
 use Rattle.boardfile.specs.declared.parts.Settings.{Settings}
@@ -11,9 +12,8 @@ use Rattle.boardfile.specs.declared.fault.ReadError.TheVariants.{Faulty, NoMemor
 use Rattle.boardfile.specs.declared.fault.Section.TheVariants as section
 use Rattle.boardfile.specs.declared.fault.FaultKind.TheVariants.{Trailing}
 use Rattle.boardfile.specs.Layout.{settings_bytes, event_bytes}
-use Rattle.boardfile.specs.Faults.{count_of, HasSettings, HasEvents, NoEvent, FirstUnfit, SettingsFaulty, EventsFaulty, FileFaulty, PassesSettings, WantsMemory, ReadRefused}
+use Rattle.boardfile.specs.Faults.{count_of, SettingsChecks, HasSettings, HasEvents, NoEvent, FirstUnfit, SettingsFaulty, EventsFaulty, FileFaulty, PassesSettings, WantsMemory, ReadRefused}
 use Rattle.boardfile.specs.Reads.{Reads}
-use Rattle.boardfile.proofs.First.{checks_map}
 use Rattle.boardfile.proofs.Lends.{file_length}
 use Rattle.boardfile.proofs.Records.{fewer}
 use Rattle.boardfile.proofs.Unique.{settings_length, event_length, events_length}
@@ -24,55 +24,47 @@ use Rattle.boardfile.proofs.Unique.{settings_length, event_length, events_length
 prefix : (u z p t : List ℕ) → u ++ z ≡ p ++ t → length p ≤ length u → (t' : List ℕ) × (u ≡ p ++ t')
 prefix u z [] t e h = (u, refl)
 prefix [] z (a ∷ p) t e h = absurd (omega arith)
-prefix (b ∷ u) z (a ∷ p) t e h =
-    let first : b ≡ a = ap (λ (l : List ℕ). get_or l 0 0) e in
-    let more = prefix u z p t (ap (λ (l : List ℕ). drop 1 l) e) (omega arith) in
-    (more.0, ap (λ (x : ℕ). x ∷ u) first ∙ ap (λ (l : List ℕ). a ∷ l) more.1)
-
-behind : (u z : List ℕ) → 2 ≤ length u → drop 2 (u ++ z) ≡ drop 2 u ++ z
-behind u z h = drop-append-le 2 u z h
+prefix (b ∷ u) z (a ∷ p) t e h = search (rules, prefix u z p t)
 
 same_count : (u z : List ℕ) → 2 ≤ length u → count_of (u ++ z) ≡ count_of u
-same_count u z h = rw (get_or_append_left u z 0 0 (omega arith), get_or_append_left u z 0 1 (omega arith))
+same_count u z h = grind (arith, common_steps)
 
 -- ---- the first section
 
 settings_forth : (u z : List ℕ) (P : Settings → Type 0) → 2 ≤ length u → HasSettings u P → HasSettings (u ++ z) P
-settings_forth u z P h (s, t, e, p) =
-    (s, t ++ z, behind u z h ∙ ap (λ (l : List ℕ). l ++ z) e ∙ append_assoc (settings_bytes s) t z, p)
+settings_forth u z P h (s, t, e, p) = (s, t ++ z, grind (arith, common_steps, append_assoc), p)
 
 settings_back : (u z : List ℕ) (P : Settings → Type 0) → 10 ≤ length u → HasSettings (u ++ z) P → HasSettings u P
 settings_back u z P h (s, t, e, p) =
     let l = settings_length s in
-    let d = length-drop 2 u in
-    let q = prefix (drop 2 u) z (settings_bytes s) t (sym (behind u z (omega arith)) ∙ e) (omega arith) in
+    let q = prefix (drop 2 u) z (settings_bytes s) t (grind (arith, common_steps)) (grind (arith, common_steps)) in
     (s, q.0, q.1, p)
 
 settings_longer : (u z : List ℕ) (later later' : Fault → Type 0) (f : Fault) → 10 ≤ length u → (later f → later' f) → SettingsFaulty u later f → SettingsFaulty (u ++ z) later' f
-settings_longer u z later later' f h m (inl a) = absurd (a.0 (omega arith))
-settings_longer u z later later' f h m (inr (p, inl a)) =
+settings_longer u z later later' f h m x =
     let l = length-append u z in
-    inr (omega arith, inl (λ q. a.0 (sym (same_count u z p) ∙ q), a.1))
-settings_longer u z later later' f h m (inr (p, inr (q, inl a))) = absurd (a.0 h)
-settings_longer u z later later' f h m (inr (p, inr (q, inr (r, inl a)))) =
-    let l = length-append u z in
-    inr (omega arith, inr (same_count u z p ∙ q, inr (omega arith, inl (λ x. a.0 (settings_back u z _ r x), a.1))))
-settings_longer u z later later' f h m (inr (p, inr (q, inr (r, inr (some, (s, t, e, a)))))) =
-    let l = length-append u z in
-    inr (omega arith, inr (same_count u z p ∙ q, inr (omega arith, inr (settings_forth u z _ p some, settings_forth u z _ p (s, t, e, checks_map s later later' f m a)))))
+    let n = same_count u z (omega arith) in
+    let back = λ (y : HasSettings (u ++ z) (λ s. Unit {0})). settings_back u z (λ s. Unit {0}) h y in
+    let forth = λ (y : HasSettings u (λ s. Unit {0})). settings_forth u z (λ s. Unit {0}) (omega arith) y in
+    let on = λ (y : HasSettings u (λ s. SettingsChecks s later f)). settings_forth u z (λ s. SettingsChecks s later f) (omega arith) y in
+    search rules
 
 -- ---- the second section
 
 events_forth : (u z t : List ℕ) (n : ℕ) → 2 ≤ length u → HasEvents u n t → HasEvents (u ++ z) n (t ++ z)
-events_forth u z t n h (es, k, fit, e) =
-    (es, k, fit, behind u z h ∙ ap (λ (l : List ℕ). l ++ z) e ∙ append_assoc (flat_map event_bytes es) t z)
+events_forth u z t n h has = record {
+  events = has.events;
+  counted = has.counted;
+  fit = has.fit;
+  stand = grind (arith, common_steps, drop-append-le, append_assoc);
+}
 
 events_back : (u z t : List ℕ) (n : ℕ) → 2 + 6 * n ≤ length u → HasEvents (u ++ z) n t → (t' : List ℕ) × HasEvents u n t'
-events_back u z t n h (es, k, fit, e) =
-    let l = events_length es in
-    let d = length-drop 2 u in
-    let q = prefix (drop 2 u) z (flat_map event_bytes es) t (sym (behind u z (omega arith)) ∙ e) (omega arith) in
-    (q.0, (es, k, fit, q.1))
+events_back u z t n h has =
+    let l = events_length has.events in
+    let k = has.counted in
+    let q = prefix (drop 2 u) z (flat_map event_bytes has.events) t (grind (arith, common_steps, has.stand)) (grind (arith, common_steps)) in
+    (q.0, record { events = has.events; counted = k; fit = has.fit; stand = q.1 })
 
 -- six bytes that are no event are none with more behind them
 no_event_longer : (t z : List ℕ) → 6 ≤ length t → NoEvent t → NoEvent (t ++ z)
@@ -86,11 +78,10 @@ unfit_longer u z n f h not (i, t, has, none, e) =
     elim (cases_lt i n) [
       | inr more ↦ absurd (not (fewer u t n i more has))
       | inl l ↦
-          let a = events_length has.0 in
-          let b = has.1 in
-          let c = ap length has.3 ∙ length-append (flat_map event_bytes has.0) t in
-          let d = length-drop 2 u in
-          (i, t ++ z, events_forth u z t i (omega arith) has, no_event_longer t z (omega arith) none, e)
+          let a = events_length has.events in
+          let b = has.counted in
+          let c = ap length has.stand in
+          (i, t ++ z, events_forth u z t i (omega arith) has, no_event_longer t z (grind (arith, common_steps)) none, e)
     ]
 
 events_longer : (u z : List ℕ) (f : Fault) → 24578 < length u → EventsFaulty u f → EventsFaulty (u ++ z) f
@@ -125,16 +116,13 @@ wants_longer : (u z : List ℕ) → WantsMemory u → WantsMemory (u ++ z)
 wants_longer u z w =
     let l = length-append u z in
     let n = same_count u z w.counted in
-    let p = w.allowed in
-    let q = w.whole in
-    let r = w.some in
-    record { counted = omega arith; allowed = omega arith; whole = omega arith; some = omega arith; event = (w.event.0 ++ z, events_forth u z w.event.0 1 w.counted w.event.1) }
+    let e : HasEvents (u ++ z) 1 (w.event.0 ++ z) = events_forth u z w.event.0 1 w.counted w.event.1 in
+    search rules
 
 -- ---- the file
 
 passes_longer : (u z : List ℕ) → PassesSettings u → PassesSettings (u ++ z)
-passes_longer u z (s, t, e, h) =
-    (s, t ++ z, ap (λ (b : List ℕ). b ++ z) e ∙ ap (λ (b : List ℕ). 0 ∷ 1 ∷ b) (append_assoc (settings_bytes s) t z), h)
+passes_longer u z (s, t, e, h) = (s, t ++ z, grind (arith, common_steps, append_assoc), h)
 
 file_longer : (u z : List ℕ) (f : Fault) → 24588 < length u → FileFaulty u f → FileFaulty (u ++ z) f
 file_longer u z f h =
@@ -159,7 +147,7 @@ pub input_reads : (limit : ℕ) (input : List ℕ) (s : Settings) (es : List Cal
 input_reads limit input s es h r =
     elim (halves limit input h) [
       | inl e ↦ subst (λ (b : List ℕ). Reads b s es) e r
-      | inr l ↦ let n = file_length s es in let k = ap length r.0 in let m = r.1.1 in absurd (omega arith)
+      | inr l ↦ let n = file_length s es in let k = ap length r.0 in let m = r.1.count in absurd (omega arith)
     ]
 
 pub input_refused : (limit : ℕ) (input : List ℕ) (e : ReadError) → 24588 < limit → ReadRefused (take limit input) e → ReadRefused input e

@@ -42,8 +42,11 @@ abbrev pub HasSettings : List ℕ → (Settings → Type 0) → Type 0
 HasSettings b P = (s : Settings) × (t : List ℕ) × (drop 2 b ≡ settings_bytes s ++ t) × P s
 
 -- so many events that fit stand behind the count, and then the bytes t
-abbrev pub HasEvents : List ℕ → ℕ → List ℕ → Type 0
-HasEvents b n t = (es : List Call) × (length es ≡ n) × EventsFit es × (drop 2 b ≡ flat_map event_bytes es ++ t)
+pub record HasEvents (b : List ℕ) (n : ℕ) (t : List ℕ) : Type 0 where
+  pub events : List Call
+  pub counted : length events ≡ n
+  pub fit : EventsFit events
+  pub stand : drop 2 b ≡ flat_map event_bytes events ++ t
 
 -- no event that fits stands at the start of the bytes
 abbrev pub NoEvent : List ℕ → Type 0

@@ -18,8 +18,10 @@ PlacesFit s = (1 ≤ s.places) × (s.places ≤ s.clients) × (s.line ≡ RoundR
 abbrev pub TasksFit : Settings → Type 0
 TasksFit s = (1 ≤ s.tasks) × (s.tasks ≤ 255)
 
-abbrev pub SettingsFit : Settings → Type 0
-SettingsFit s = ClientsFit s × PlacesFit s × TasksFit s
+pub record SettingsFit (s : Settings) : Type 0 where
+  pub clients : ClientsFit s
+  pub places : PlacesFit s
+  pub tasks : TasksFit s
 
 abbrev pub EventFits : Call → Type 0
 EventFits (Request client) = Unit {0}
@@ -36,8 +38,10 @@ EventFits Run = Unit {0}
 abbrev pub EventsFit : List Call → Type 0
 EventsFit es = All EventFits es
 
-abbrev pub FileFits : Settings → List Call → Type 0
-FileFits s es = SettingsFit s × (length es ≤ 4096) × EventsFit es
+pub record FileFits (s : Settings) (es : List Call) : Type 0 where
+  pub settings : SettingsFit s
+  pub count : length es ≤ 4096
+  pub events : EventsFit es
 
 abbrev pub Fits : BoardFile → Type 0
 Fits file = FileFits file.settings (vec_items file.events)

@@ -5,8 +5,7 @@ ghost use Rattle.boardfile.specs.Fits.{EventsFit};
 ghost use Rattle.boardfile.specs.Faults.{EventsRefused};
 
 use crate::count::take_count;
-use crate::event;
-use crate::event::take_event;
+use crate::event::{self, take_event};
 use crate::fault::{Fault, FaultKind, ReadError, Section};
 use crate::parts::MOST_EVENTS;
 use calls::call::Call;

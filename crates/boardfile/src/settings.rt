@@ -10,7 +10,7 @@ use crate::fault::{Fault, FaultKind, Section};
 use crate::parts::{DeviceKind, LineKind, NoLayout, PolicyKind, Settings};
 
 // The bytes of a record.
-const LEN: usize = 8;
+pub(crate) const LEN: usize = 8;
 
 // The settings whose record the bytes begin with, and the bytes after it.
 fn take_settings(bytes: &[u8]) -> Result<(Settings, &[u8]), NoLayout>
@@ -64,7 +64,7 @@ pub(crate) fn check(settings: Settings) -> Result<(), Fault>
     if !(least..=clients).contains(&places) {
         return Err(Fault::new(FaultKind::Places, Section::Settings, 0));
     }
-    if tasks < 1 {
+    if tasks == 0 {
         return Err(Fault::new(FaultKind::Tasks, Section::Settings, 0));
     }
     Ok(())

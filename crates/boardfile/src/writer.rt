@@ -14,7 +14,7 @@ use crate::{count, event, settings};
 use calls::call::Call;
 
 // The bytes of the first section.
-const FIRST_SECTION: usize = 10;
+const FIRST_SECTION: usize = count::LEN + settings::LEN;
 
 // Writes an event's record at the start of the buffer.
 fn put_event(event: Call, buf: &mut [u8])
@@ -86,6 +86,7 @@ fn check(file: &BoardFile) -> Result<(), Fault>
 }
 
 // The length of the file, if its parts pass the tests.
+#[tactic(auto, using(crate::proofs::Lends::file_length))]
 fn measure(file: &BoardFile) -> Result<usize, Fault>
     ensures measured { IfOk result (Measures file.now) }
     ensures first { IfErr result (Unwritable file.now) }

@@ -31,8 +31,8 @@ fn dones(heap: Global, mark: u8, count: usize) -> Result<BoardFile, AllocError> 
     })
 }
 
-fn faulty(kind: FaultKind, section: Section) -> Result<usize, WriteError> {
-    Err(WriteError::Faulty(Fault::new(kind, section, 0)))
+fn faulty(kind: FaultKind, place: (Section, u16)) -> Result<usize, WriteError> {
+    Err(WriteError::Faulty(Fault { kind, place }))
 }
 
 #[test]
@@ -64,27 +64,27 @@ fn refuses_its_parts(rt: HostRuntime) -> Result<(), Fail> {
     file.settings = settings(33, 0, 0);
     assert_eq!(rt;
         write(&file, &mut none),
-        faulty(FaultKind::Clients, Section::Settings)
+        faulty(FaultKind::Clients, (Section::Settings, 0))
     );
     file.settings = settings(4, 3, 0);
     assert_eq!(rt;
         write(&file, &mut none),
-        faulty(FaultKind::Places, Section::Settings)
+        faulty(FaultKind::Places, (Section::Settings, 0))
     );
     file.settings = settings(4, 4, 0);
     assert_eq!(rt;
         write(&file, &mut none),
-        faulty(FaultKind::Tasks, Section::Settings)
+        faulty(FaultKind::Tasks, (Section::Settings, 0))
     );
     file.settings = settings(4, 4, 1);
     assert_eq!(rt;
         write(&file, &mut none),
-        faulty(FaultKind::Count, Section::Events)
+        faulty(FaultKind::Count, (Section::Events, 0))
     );
     let _ = file.events.pop();
     assert_eq!(rt;
         write(&file, &mut none),
-        faulty(FaultKind::Unfit, Section::Events)
+        faulty(FaultKind::Unfit, (Section::Events, 0))
     );
     Ok(())
 }

@@ -1,6 +1,5 @@
-use Rattle.std.proofs.Common.{ℕ, List, ◌∷◌, ◌++◌, drop, ap, ◌∙◌}
+use Rattle.std.proofs.Common.{drop, rules}
 use Rattle.std.proofs.lemmas.Result.{err_from_is_err_and}
-use Rattle.boardfile.specs.Layout.{settings_bytes}
 use Rattle.boardfile.specs.Faults.{EventsFaulty}
 use Rattle.boardfile.proofs.First.{settings_fault, events_refusal}
 use Rattle.boardfile.proofs.Judged.{refused, accepted}
@@ -19,8 +18,4 @@ returns-in_err-events c =
     rw (p.1, p.2) (refused _ _ (events_refusal _ _ _ _ q.layout q.fit c.in_err-events.ensures.refused))
 
 pub returns : goal.returns
-returns c =
-    let s = c.in_ok-settings.settings in
-    let p = c.in_ok-settings.ensures in
-    let q = c.in_ok-events.ensures in
-    accepted _ _ (p.layout ∙ ap (λ (t : List ℕ). 0 ∷ 1 ∷ (settings_bytes s ++ t)) q.layout, (p.fit, q.allowed, q.fit))
+returns c = accepted _ _ (search rules)

@@ -7,4 +7,4 @@ pub returns-in-Some-clause-first : goal.returns-in-Some-clause-first
 returns-in-Some-clause-first c =
     let h = c.in_ok-check.ensures.fit in
     let u : UnfitAt (vec_items c.args.file.now.events) c.in-Some.index = search rules in
-    inr (h.0, inr (h.1, inr (h.2, inr (search rules, inl (not_all_fit _ _ u, (_, u, search rules))))))
+    inr (h.clients, inr (h.places, inr (h.tasks, inr (search rules, inl (not_all_fit _ _ u, (_, u, search rules))))))
