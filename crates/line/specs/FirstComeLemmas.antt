@@ -5,7 +5,7 @@ use Rattle.std.proofs.lemmas.Bool.Decides.{nat_tests}
 use Rattle.std.proofs.lemmas.Bool.{both_ways}
 use Rattle.pending.specs.Numbers.{below}
 use Rattle.pending.specs.Orders.{oldest, rest}
-use Rattle.pending.specs.declared.client.Client.{Client}
+use Rattle.pending.specs.Ids.{Client}
 use Rattle.line.specs.Lines.{is_empty, Took, Takes, number_of}
 use Rattle.line.specs.Arrivals.{arrivals_capacity, arrivals_view}
 use Rattle.line.specs.FirstCome.{arrivals, capacity, view}

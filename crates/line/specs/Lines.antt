@@ -13,7 +13,7 @@ use Rattle.std.specs.Prelude.{◌≡◌, ℕ, zero, suc, ◌+◌, ◌<◌, ◌�
 use Rattle.std.specs.Option.{option_map}
 use Rattle.calls.specs.declared.refusal.Refusal.{Refusal}
 use Rattle.calls.specs.declared.refusal.Refusal.TheVariants.{NoSuchClient, AlreadyRequested, LineFull}
-use Rattle.pending.specs.declared.client.Client.{Client}
+use Rattle.pending.specs.Ids.{Client}
 
 pub record Capacity : Type 0 where
   pub clients : ℕ

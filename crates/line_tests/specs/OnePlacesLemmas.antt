@@ -3,7 +3,7 @@ use Rattle.std.specs.Prelude.{◌≡◌, ℕ, suc, ◌<◌, true, false, is_some
 use Rattle.std.proofs.Common.{sym, ap, ◌∙◌, arith}
 use Rattle.std.proofs.lemmas.Bool.Decides.{nat_tests}
 use Rattle.std.proofs.lemmas.Bool.{both_ways, eqb-true, eq-eqb, ne_eqb, ltb-true, lt-ltb}
-use Rattle.pending.specs.declared.client.Client.{Client}
+use Rattle.pending.specs.Ids.{Client}
 use Rattle.line.specs.Lines.{LineLaw, Put, Took, waiting, is_full, number_of}
 use Rattle.line.specs.Waiting.{nobody_waits, one_more}
 use Rattle.line_tests.specs.OnePlaces.{known, one_capacity, one_view}

@@ -2,6 +2,7 @@
 #![tactic(auto)]
 
 pub mod client;
+pub mod id;
 pub mod key;
 mod links;
 pub mod list;
