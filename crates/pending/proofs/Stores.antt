@@ -4,8 +4,9 @@ use Rattle.std.proofs.lemmas.List.{get_or-set_same, get_or-set_other, length_pus
 use Rattle.std.proofs.lemmas.Bool.{and_parts, or_parts, or_from, not-true, both_ways, eqb-true, eq-eqb, ne_eqb, cond-true, cond-false, cases_eq, cases_Bool}
 use Rattle.pending.specs.Numbers.{has, distinct, ends}
 use Rattle.pending.specs.Chains.{chain, linked, Linked, Distinct, Ended, Clear, Counted}
-use Rattle.pending.specs.Orders.{numbers, is_empty}
-use Rattle.pending.specs.declared.links.Links.{Links}
+use Rattle.pending.specs.Orders.{is_empty}
+use Rattle.pending.specs.Lists.{order}
+use Rattle.pending.specs.declared.list.PendingList.{PendingList}
 use Rattle.pending.proofs.Numbers.{has_push, distinct_push, below_push, ends_push, has_ends, ends_below, length_below}
 use Rattle.pending.proofs.Chains.{link, linked_from, walk_linked, linked_below, linked_next, linked_frame, linked_push}
 
@@ -33,8 +34,8 @@ facts {head} {tail} {next} {len} s =
     let t : Stands head tail next len (chain head next) = subst (λ ys. Stands head tail next len ys) (sym (chain_is s)) s in
     record { linked = t.links; distinct = t.once; ended = t.lasts; clear = t.clears; counted = t.counts }
 
-pub stands : (l : Links) → Stands l.head l.tail l.next l.len (numbers l)
-stands l = record { links = l.linked; once = l.distinct; lasts = l.ended; clears = l.clear; counts = l.counted }
+pub stands : {K : Type 0} (p : PendingList K) → Stands p.head p.tail p.next p.len (order p)
+stands p = record { links = p.linked; once = p.distinct; lasts = p.ended; clears = p.clear; counts = p.counted }
 
 -- ---- what the store tells of the list
 module _ (head tail : ℕ) (next : List ℕ) (len : ℕ) where

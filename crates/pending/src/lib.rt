@@ -4,6 +4,5 @@
 pub mod client;
 pub mod id;
 pub mod key;
-mod links;
 pub mod list;
 pub mod task;
