@@ -28,6 +28,9 @@ has_below n c (x ∷ xs) b h =
     let p = and_parts (nat_lt x n) _ b in
     ⊎_elim (λ e. omega (arith, eqb-true c x e, ltb-true x n p.0)) (λ m. has_below n c xs p.1 m) (or_cases (c == x) _ h)
 
+pub has_above : (n c : ℕ) (xs : List ℕ) → below n xs ≡ true → n ≤ c → has c xs ≡ false
+has_above n c xs b l = ⊎_elim (λ (h : has c xs ≡ true). absurd (omega (arith, has_below n c xs b h))) (λ h. h) (cases_Bool (has c xs))
+
 -- ---- how many stand in front
 front_below : (c : ℕ) (xs : List ℕ) → has c xs ≡ true → in_front c xs < length xs
 unfolding in_front has

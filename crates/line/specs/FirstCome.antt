@@ -12,12 +12,12 @@ abbrev pub arrivals : FirstCome → List ℕ
 arrivals l = order l.queue
 
 abbrev pub capacity : FirstCome → Capacity
-capacity l = arrivals_capacity l.clients l.places
+capacity l = arrivals_capacity l.size.clients l.size.places
 
 abbrev pub view : FirstCome → LineView
 view l = arrivals_view (arrivals l)
 
 pub record Made (n k : ℕ) (l : FirstCome) : Type 0 where
-  pub clients : l.clients ≡ n
-  pub places : l.places ≡ k
+  pub clients : l.size.clients ≡ n
+  pub places : l.size.places ≡ k
   pub nobody : arrivals l ≡ []

@@ -13,13 +13,13 @@ use Rattle.line.specs.declared.first_come.FirstCome.{FirstCome}
 use Rattle.pending.proofs.Lists.{once}
 use Rattle.line.specs.ArrivalsLemmas.{Queue, queue_pop, queue_took}
 
-pub queue : (l : FirstCome) → Queue l.clients l.places (arrivals l)
-queue l = record { few = l.few; some = l.some; fitting = l.fitting; once = once l.queue; placed = l.placed; known = l.known }
+pub queue : (l : FirstCome) → Queue l.size.clients l.size.places (arrivals l)
+queue l = record { few = l.size.few; some = l.size.some; fitting = l.size.fitting; once = once l.queue; placed = l.placed; known = l.known }
 
 -- what a line carries, by the names of its ghost fields
 pub facts : (n k : ℕ) (xs ys : List ℕ) → ys ≡ xs → Queue n k xs
-    → record { few : n ≤ 32; some : 1 ≤ k; fitting : k ≤ n; placed : length ys ≤ k; known : below n ys ≡ true }
-facts n k xs ys e q = record { few = q.few; some = q.some; fitting = q.fitting; placed = rw e q.placed; known = rw e q.known }
+    → record { placed : length ys ≤ k; known : below n ys ≡ true }
+facts n k xs ys e q = record { placed = rw e q.placed; known = rw e q.known }
 
 pub queue_rest : (n k : ℕ) (xs : List ℕ) → Queue n k xs → Queue n k (rest xs)
 queue_rest n k [] q = q

@@ -27,6 +27,22 @@ pub trait Line {
     fn is_empty(&self) -> bool
         ensures { result ≡ is_empty (view self.now) };
 
+    // What a put of the client would answer.
+    fn check_put(&self, client: u8) -> Result<(), Refusal>
+        ensures { result ≡ put_answer (capacity self.now) (view self.now) client }
+    {
+        if client >= self.clients() {
+            return Err(Refusal::NoSuchClient);
+        }
+        if self.is_waiting(client) {
+            return Err(Refusal::AlreadyRequested);
+        }
+        if self.is_full() {
+            return Err(Refusal::LineFull);
+        }
+        Ok(())
+    }
+
     // Puts the client in line. A refusal leaves the line as it was.
     fn put(&mut self, client: u8) -> Result<(), Refusal>
         ensures same { capacity self.new ≡ capacity self.old }
