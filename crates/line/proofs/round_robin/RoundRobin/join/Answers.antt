@@ -1,5 +1,5 @@
 use Rattle.std.proofs.Common.{◌≡◌, ◌*◌, ◌%◌, ◌^◌, refl, ap, arith}
-use lib.Bits.{bit_or}
+use Rattle.std.specs.Prelude.{bit_or}
 use Rattle.line.specs.Turns.{with_bit}
 use Rattle.line.specs.TurnsLemmas.{round_set, round_put}
 use Rattle.line.specs.RoundRobinLemmas.{round, facts, shifted}

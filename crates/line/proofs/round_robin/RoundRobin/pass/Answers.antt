@@ -1,5 +1,5 @@
 use Rattle.std.proofs.Common.{◌≡◌, ◌-◌, ◌*◌, ◌%◌, ◌^◌, ◌<◌, refl, ap, arith}
-use lib.Bits.{bit_and}
+use Rattle.std.specs.Prelude.{bit_and}
 use Rattle.line.specs.Turns.{bit, turns_before, without_bit}
 use Rattle.line.specs.Least.{least_some}
 use Rattle.line.specs.TurnsLemmas.{round_clear, round_took}
