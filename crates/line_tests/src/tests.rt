@@ -49,19 +49,16 @@ fn take<L: Line>(line: &mut L) -> Option<u8> {
 #[test]
 fn first_come_refuses(rt: HostRuntime) {
     let mut line = FirstCome::new();
-    for (clients, places, answer) in &[
+    for (clients, places, answer) in [
         (0, 1, Err(16)),
         (33, 1, Err(16)),
         (3, 4, Err(17)),
         (3, 0, Err(17)),
         (3, 2, Ok(())),
     ] {
-        assert_eq!(rt;
-            line.make(*clients, *places).map_err(Refusal::number),
-            *answer
-        );
+        assert_eq!(rt; line.make(clients, places).map_err(Refusal::number), answer);
     }
-    for (client, answer) in &[
+    for (client, answer) in [
         (2, Ok(())),
         (3, Err(1)),
         (255, Err(1)),
@@ -70,10 +67,10 @@ fn first_come_refuses(rt: HostRuntime) {
         (2, Err(2)),
         (1, Err(3)),
     ] {
-        assert_eq!(rt; put(&mut line, *client), *answer);
+        assert_eq!(rt; put(&mut line, client), answer);
     }
-    for client in &[Some(2), Some(0), None] {
-        assert_eq!(rt; take(&mut line), *client);
+    for client in [Some(2), Some(0), None] {
+        assert_eq!(rt; take(&mut line), client);
     }
 }
 
@@ -83,13 +80,13 @@ fn round_robin_takes_turns(rt: HostRuntime) -> Result<(), Fail> {
     let mut line = RoundRobin::new(4, 4)?;
     line.put(2)?;
     line.put(0)?;
-    for client in &[Some(0), Some(2), None] {
-        assert_eq!(rt; take(&mut line), *client);
+    for client in [Some(0), Some(2), None] {
+        assert_eq!(rt; take(&mut line), client);
     }
     line.put(1)?;
     line.put(3)?;
-    for client in &[Some(3), Some(1), None] {
-        assert_eq!(rt; take(&mut line), *client);
+    for client in [Some(3), Some(1), None] {
+        assert_eq!(rt; take(&mut line), client);
     }
     Ok(())
 }
@@ -103,8 +100,8 @@ fn round_robin_of_all_clients(rt: HostRuntime) -> Result<(), Fail> {
         assert_eq!(rt; put(&mut line, client), Ok(()));
     }
     assert!(rt; line.is_full());
-    for (client, refusal) in &[(32, 1), (255, 1), (31, 2)] {
-        assert_eq!(rt; put(&mut line, *client), Err(*refusal));
+    for (client, refusal) in [(32, 1), (255, 1), (31, 2)] {
+        assert_eq!(rt; put(&mut line, client), Err(refusal));
     }
     for client in 0..32 {
         assert_eq!(rt; take(&mut line), Some(client));
