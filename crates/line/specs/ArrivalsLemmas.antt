@@ -9,7 +9,7 @@ use Rattle.pending.specs.Numbers.{has, distinct, below}
 use Rattle.pending.specs.Orders.{oldest}
 use Rattle.pending.proofs.Numbers.{has_push, distinct_push, below_push}
 use Rattle.line.specs.Lines.{LineLaw, Put, Took, waiting}
-use Rattle.line.specs.Arrivals.{in_front, arrivals_capacity, arrivals_view}
+use Rattle.line.specs.Arrivals.{in_front, arrivals_view}
 use Rattle.line.specs.Waiting.{nobody_waits, one_more}
 
 -- a list of arrivals, of n clients in k places
@@ -77,7 +77,7 @@ module _ (n k : ℕ) where
   unfolding distinct below
   queue_none f s t = record { few = f; some = s; fitting = t; once = refl; placed = omega arith; known = refl }
 
-  pub queue_law : (xs : List ℕ) → Queue n k xs → LineLaw (arrivals_capacity n k) (arrivals_view xs)
+  pub queue_law : (xs : List ℕ) → Queue n k xs → LineLaw (arrivals_view n k xs)
   queue_law xs q = record {
     narrow = omega (arith, q.few, q.fitting);
     client = λ c h. has_below n c xs q.known h;
@@ -98,8 +98,9 @@ module _ (n k : ℕ) where
     known = below_push n c xs q.known l;
   }
 
-  pub queue_put : (c : ℕ) (xs : List ℕ) → Queue n k (xs ++ c ∷ []) → Put (arrivals_capacity n k) (arrivals_view xs) c (arrivals_view (xs ++ c ∷ []))
+  pub queue_put : (c : ℕ) (xs : List ℕ) → Queue n k (xs ++ c ∷ []) → Put (arrivals_view n k xs) c (arrivals_view n k (xs ++ c ∷ []))
   queue_put c xs q = record {
+    same = refl;
     law = queue_law (xs ++ c ∷ []) q;
     puts = has_push c c xs ∙ or_right (has c xs) _ (eq-eqb c c refl);
     others = λ x e. has_push x c xs ∙ (grind (arith, nat_tests, ne_eqb x c e));
@@ -118,9 +119,10 @@ module _ (n k : ℕ) where
     known = (and_parts (nat_lt g n) _ q.known).1;
   }
 
-  pub queue_took : (g : ℕ) (xs : List ℕ) → Queue n k (g ∷ xs) → Took (arrivals_capacity n k) (arrivals_view (g ∷ xs)) g (arrivals_view xs)
+  pub queue_took : (g : ℕ) (xs : List ℕ) → Queue n k (g ∷ xs) → Took (arrivals_view n k (g ∷ xs)) g (arrivals_view n k xs)
   unfolding distinct has in_front
   queue_took g xs q = record {
+    same = refl;
     law = queue_law xs (queue_pop g xs q);
     next = refl;
     takes = not-true _ (and_parts (not (has g xs)) _ q.once).0;

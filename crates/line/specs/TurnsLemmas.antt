@@ -7,7 +7,7 @@ use Rattle.std.proofs.lemmas.Nat.{pow_below, shr_le, and_le_l, or_lt}
 use Rattle.std.proofs.lemmas.Bool.Decides.{nat_tests}
 use Rattle.std.proofs.lemmas.Bool.{both_ways, or_right, and_right, eq-eqb, ne_eqb, cases_Bool, cases_eq, cases_lt}
 use Rattle.line.specs.Lines.{LineLaw, Put, Took}
-use Rattle.line.specs.Turns.{bit, with_bit, without_bit, turns_before, least, turns_capacity, turns_view}
+use Rattle.line.specs.Turns.{bit, with_bit, without_bit, turns_before, least, turns_view}
 use Rattle.line.specs.Bits.{bit_below, bit_set, bit_clear, bit_none, bit_shift, lowest}
 use Rattle.line.specs.Waiting.{at_most}
 use Rattle.line.specs.Least.{least_some, least_none, least_is, least_nobody}
@@ -72,7 +72,7 @@ module _ (n last w : ℕ) (o : Round n last w) where
       (λ t. t)
       (cases_Bool (bit w c))
 
-  pub round_law : LineLaw (turns_capacity n) (turns_view n last w)
+  pub round_law : LineLaw (turns_view n last w)
   round_law = record {
     narrow = omega (arith, o.few);
     client = λ c h. bit_below w n c o.known h;
@@ -146,19 +146,21 @@ module _ (n last w : ℕ) (o : Round n last w) where
   round_clear g l = record { few = o.few; inside = l; known = omega (arith, o.known, and_le_l w (4294967295 - 2 ^ g)) }
 
 module _ (n last w : ℕ) (o : Round n last w) where
-  pub round_put : (c : ℕ) → c < n → Put (turns_capacity n) (turns_view n last w) c (turns_view n last (with_bit w c))
+  pub round_put : (c : ℕ) → c < n → Put (turns_view n last w) c (turns_view n last (with_bit w c))
   round_put c l = record {
+    same = refl;
     law = round_law n last (with_bit w c) (round_set n last w o c l);
     puts = bit_set w c c ∙ or_right (bit w c) _ (eq-eqb c c refl);
     others = λ x e. bit_set w c x ∙ (grind (arith, nat_tests, ne_eqb x c e));
     kept = λ x e h. omega arith;
   }
 
-  pub round_took : (g : ℕ) → next n last w ≡ Some g → Took (turns_capacity n) (turns_view n last w) g (turns_view n g (without_bit w g))
+  pub round_took : (g : ℕ) → next n last w ≡ Some g → Took (turns_view n last w) g (turns_view n g (without_bit w g))
   round_took g e =
       let f = least_some (bit w) (turns_before n last) n g e in
       let clear = λ (x : ℕ). bit_clear w n g x o.few o.known f.inside in
       record {
+        same = refl;
         law = round_law n g (without_bit w g) (round_clear n last w o g f.inside);
         next = e;
         takes = clear g ∙ and_right (bit w g) _ (ap not (eq-eqb g g refl));

@@ -26,7 +26,7 @@ pub struct FirstCome {
 }
 
 impl FirstCome {
-    ghost use Rattle.line.specs.FirstCome.{arrivals, capacity, view, Made};
+    ghost use Rattle.line.specs.FirstCome.{arrivals, view, Made};
 
     // A line for one client: a place in which any other can be made.
     pub fn new() -> FirstCome
@@ -69,9 +69,8 @@ impl FirstCome {
     fn join(&mut self, client: u8)
         requires known { client < self.old.size.clients }
         requires absent { (view self.old).waits client ≡ false }
-        requires free { is_full (capacity self.old) (view self.old) ≡ false }
-        ensures same { capacity self.new ≡ capacity self.old }
-        ensures moves { Put (capacity self.old) (view self.old) client (view self.new) }
+        requires free { is_full (view self.old) ≡ false }
+        ensures moves { Put (view self.old) client (view self.new) }
         ensures exact { arrivals self.new ≡ arrivals self.old ++ client ∷ [] }
     {
         let client = Client::from_number(client).unwrap();
@@ -81,10 +80,8 @@ impl FirstCome {
 }
 
 impl Line for FirstCome {
-    ghost use Rattle.line.specs.FirstCome.{arrivals, capacity, view};
+    ghost use Rattle.line.specs.FirstCome.{arrivals, view};
     ghost use Rattle.line.specs.FirstComeLemmas.{queue};
-
-    ghost capacity = { capacity };
 
     ghost view = { view };
 
@@ -108,9 +105,8 @@ impl Line for FirstCome {
     }
 
     fn put(&mut self, client: u8) -> Result<(), Refusal>
-        ensures same { capacity self.new ≡ capacity self.old }
-        ensures answer { result ≡ put_answer (capacity self.old) (view self.old) client }
-        ensures moves { Puts capacity view self.old client result self.new }
+        ensures answer { result ≡ put_answer (view self.old) client }
+        ensures moves { Puts view self.old client result self.new }
         ensures exact { arrivals self.new ≡ arrived result client (arrivals self.old) }
     {
         self.check_put(client)?;
@@ -119,9 +115,8 @@ impl Line for FirstCome {
     }
 
     fn take(&mut self) -> Option<Client>
-        ensures same { capacity self.new ≡ capacity self.old }
         ensures answer { number_of result ≡ (view self.old).next }
-        ensures moves { Takes capacity view self.old result self.new }
+        ensures moves { Takes view self.old result self.new }
         ensures exact { arrivals self.new ≡ rest (arrivals self.old) }
     {
         if self.is_empty() {

@@ -26,7 +26,7 @@ pub struct RoundRobin {
 }
 
 impl RoundRobin {
-    ghost use Rattle.line.specs.RoundRobin.{capacity, view, Made};
+    ghost use Rattle.line.specs.RoundRobin.{view, Made};
 
     // A line for so many clients, with a place for each.
     pub fn new(clients: u8, places: u8) -> Result<RoundRobin, Refusal>
@@ -77,8 +77,7 @@ impl RoundRobin {
     // Sets the bit of a client that does not wait.
     fn join(&mut self, client: u8)
         requires { client < self.old.clients }
-        ensures same { capacity self.new ≡ capacity self.old }
-        ensures moves { Put (capacity self.old) (view self.old) client (view self.new) }
+        ensures moves { Put (view self.old) client (view self.new) }
         ensures word { self.new.word ≡ with_bit self.old.word client }
         ensures last { self.new.last ≡ self.old.last }
     {
@@ -89,8 +88,7 @@ impl RoundRobin {
     fn pass(&mut self, next: u8)
         requires { (view self.old).next ≡ Some next }
         ensures least { LeastPatience (view self.old) next }
-        ensures same { capacity self.new ≡ capacity self.old }
-        ensures moves { Took (capacity self.old) (view self.old) next (view self.new) }
+        ensures moves { Took (view self.old) next (view self.new) }
         ensures word { self.new.word ≡ without_bit self.old.word next }
         ensures last { self.new.last ≡ next }
     {
@@ -100,10 +98,8 @@ impl RoundRobin {
 }
 
 impl Line for RoundRobin {
-    ghost use Rattle.line.specs.RoundRobin.{capacity, view};
+    ghost use Rattle.line.specs.RoundRobin.{view};
     ghost use Rattle.line.specs.RoundRobinLemmas.{round};
-
-    ghost capacity = { capacity };
 
     ghost view = { view };
 
@@ -127,9 +123,8 @@ impl Line for RoundRobin {
     }
 
     fn put(&mut self, client: u8) -> Result<(), Refusal>
-        ensures same { capacity self.new ≡ capacity self.old }
-        ensures answer { result ≡ put_answer (capacity self.old) (view self.old) client }
-        ensures moves { Puts capacity view self.old client result self.new }
+        ensures answer { result ≡ put_answer (view self.old) client }
+        ensures moves { Puts view self.old client result self.new }
         ensures word { self.new.word ≡ joined result client self.old.word }
         ensures last { self.new.last ≡ self.old.last }
     {
@@ -139,9 +134,8 @@ impl Line for RoundRobin {
     }
 
     fn take(&mut self) -> Option<Client>
-        ensures same { capacity self.new ≡ capacity self.old }
         ensures answer { number_of result ≡ (view self.old).next }
-        ensures moves { Takes capacity view self.old result self.new }
+        ensures moves { Takes view self.old result self.new }
         ensures least { IfSome result (λ g. LeastPatience (view self.old) g.number) }
         ensures word { self.new.word ≡ left (view self.old).next self.old.word }
         ensures last { self.new.last ≡ options.unwrap_or (view self.old).next self.old.last }

@@ -1,7 +1,7 @@
 // A line with one place, for any number of clients.
 ghost use Rattle.std.specs.Prelude.{◌≡◌, ◌≤◌, true, None};
 ghost use Rattle.line.specs.Lines.{number_of};
-ghost use Rattle.line_tests.specs.OnePlaces.{known, one_capacity, one_view};
+ghost use Rattle.line_tests.specs.OnePlaces.{known, one_view};
 ghost use Rattle.line_tests.specs.OnePlacesLemmas.{one_law};
 
 use calls::refusal::Refusal;
@@ -32,9 +32,7 @@ impl OnePlace {
 }
 
 impl Line for OnePlace {
-    ghost capacity = { λ l. one_capacity l.clients };
-
-    ghost view = { λ l. one_view (number_of l.waiting) };
+    ghost view = { λ l. one_view l.clients (number_of l.waiting) };
 
     ghost sound = { λ l. one_law _ _ l.known };
 

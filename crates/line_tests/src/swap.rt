@@ -10,8 +10,8 @@ use pending::client::Client;
 
 // Puts a client in line and takes the next one out of it. All others come nearer to their turn.
 pub fn swap<L: Line>(line: &mut L, client: u8) -> Result<Option<Client>, Refusal>
-    ensures same { L.capacity line.new ≡ L.capacity line.old }
-    ensures answer { results.result_err result ≡ results.result_err (put_answer (L.capacity line.old) (L.view line.old) client) }
+    ensures same { (L.view line.new).size ≡ (L.view line.old).size }
+    ensures answer { results.result_err result ≡ results.result_err (put_answer (L.view line.old) client) }
     ensures moves { results.MatchResult result (Swapped (L.view line.old) client (L.view line.new)) (λ _. line.new ≡ line.old) }
 {
     line.put(client)?;

@@ -1,4 +1,4 @@
-use Rattle.std.proofs.Common.{◌≡◌, [], ◌∷◌, ◌++◌, refl, arith}
+use Rattle.std.proofs.Common.{◌≡◌, [], ◌∷◌, ◌++◌, arith}
 use Rattle.std.proofs.lemmas.Bool.Decides.{nat_tests}
 use Rattle.std.proofs.lemmas.Grind.{common_steps}
 use Rattle.pending.specs.Lists.{order}
@@ -27,4 +27,4 @@ pub returns : goal.returns
 returns c =
     let at = (goal.at.returns c).After-add in
     let e = grown at in
-    record { same = refl; moves = rw e (queue_put _ _ _ (arrivals c.args.self.now) (after at)); exact = e }
+    record { moves = rw e (queue_put _ _ _ (arrivals c.args.self.now) (after at)); exact = e }

@@ -18,7 +18,6 @@ returns c =
     let l = c.args.self.now in
     let e = grown (goal.at.returns c).Start in
     record {
-      same = refl;
       moves = rw e (round_put _ _ _ (round l) c.args.client c.requires);
       word = e;
       last = refl;

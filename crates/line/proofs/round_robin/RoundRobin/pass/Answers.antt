@@ -24,4 +24,4 @@ pub returns : goal.returns
 returns c =
     let l = c.args.self.now in
     let e = gone (goal.at.returns c).Start in
-    record { least = least l _ c.requires; same = refl; moves = rw e (round_took _ _ _ (round l) c.args.next c.requires); word = e; last = refl }
+    record { least = least l _ c.requires; moves = rw e (round_took _ _ _ (round l) c.args.next c.requires); word = e; last = refl }
