@@ -1,6 +1,6 @@
 // The line that serves first who came first.
-ghost use Rattle.std.specs.Prelude.{◌≡◌, ◌<◌, ◌≤◌, true, false, [], ◌∷◌, ◌++◌, length};
-ghost use Rattle.std.specs.Result as results;
+ghost use Rattle.std.specs.Prelude.{◌≡◌, ◌<◌, ◌≤◌, true, false, [], ◌∷◌, ◌++◌, length, MatchResult};
+ghost use Rattle.std.specs.Result.{result_err};
 ghost use Rattle.pending.specs.Numbers.{below};
 ghost use Rattle.pending.specs.Orders.{rest};
 ghost use Rattle.pending.specs.Lists.{order};
@@ -40,8 +40,8 @@ impl FirstCome {
 
     // Makes a line for so many clients, with so many places, in the place of this one.
     pub fn make(&mut self, clients: u8, places: u8) -> Result<(), Refusal>
-        ensures answer { results.result_err result ≡ make_refusal clients (places_fit clients places) }
-        ensures moves { results.MatchResult result (λ _. Made clients places self.new) (λ _. self.new ≡ self.old) }
+        ensures answer { result_err result ≡ make_refusal clients (places_fit clients places) }
+        ensures moves { MatchResult result (λ _. Made clients places self.new) (λ _. self.new ≡ self.old) }
     {
         let size = Size::new(clients, places)?;
         *self = FirstCome::empty(size);

@@ -1,7 +1,6 @@
 // The line that serves its clients in turn.
-ghost use Rattle.std.specs.Prelude.{◌≡◌, ◌^◌, ◌<◌, ◌≤◌, false, IfSome, IfOk, Some, ◌==◌};
-ghost use Rattle.std.specs.Option as options;
-ghost use Rattle.std.specs.Result as results;
+ghost use Rattle.std.specs.Prelude.{◌≡◌, ◌^◌, ◌<◌, ◌≤◌, false, IfSome, IfOk, Some, ◌==◌, unwrap_or};
+ghost use Rattle.std.specs.Result.{result_err};
 ghost use Rattle.line.specs.Lines.{waiting, put_answer, Put, Took, Puts, Takes, number_of};
 ghost use Rattle.line.specs.Making.{make_refusal};
 ghost use Rattle.line.specs.Turns.{bit, with_bit, without_bit, turns_view, LeastPatience, joined, left};
@@ -30,7 +29,7 @@ impl RoundRobin {
 
     // A line for so many clients, with a place for each.
     pub fn new(clients: u8, places: u8) -> Result<RoundRobin, Refusal>
-        ensures answer { results.result_err result ≡ make_refusal clients (places == clients) }
+        ensures answer { result_err result ≡ make_refusal clients (places == clients) }
         ensures made { IfOk result (Made clients) }
     {
         let Size { clients, places } = Size::new(clients, places)?;
@@ -138,7 +137,7 @@ impl Line for RoundRobin {
         ensures moves { Takes view self.old result self.new }
         ensures least { IfSome result (λ g. LeastPatience (view self.old) g.number) }
         ensures word { self.new.word ≡ left (view self.old).next self.old.word }
-        ensures last { self.new.last ≡ options.unwrap_or (view self.old).next self.old.last }
+        ensures last { self.new.last ≡ unwrap_or (view self.old).next self.old.last }
     {
         let next = self.next_behind(self.last)?;
         self.pass(next);

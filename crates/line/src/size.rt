@@ -1,6 +1,6 @@
 // How large a line is.
 ghost use Rattle.std.specs.Prelude.{◌≡◌, ◌≤◌, IfOk};
-ghost use Rattle.std.specs.Result as results;
+ghost use Rattle.std.specs.Result.{result_err};
 ghost use Rattle.line.specs.Making.{make_refusal, places_fit};
 
 use calls::refusal::Refusal;
@@ -17,7 +17,7 @@ pub(crate) struct Size {
 
 impl Size {
     pub(crate) fn new(clients: u8, places: u8) -> Result<Size, Refusal>
-        ensures answer { results.result_err result ≡ make_refusal clients (places_fit clients places) }
+        ensures answer { result_err result ≡ make_refusal clients (places_fit clients places) }
         ensures clients { IfOk result (λ size. size.clients ≡ clients) }
         ensures places { IfOk result (λ size. size.places ≡ places) }
     {
