@@ -1,6 +1,6 @@
 -- A store stands for a list of numbers: what each change of the store does to the list. Assumes nothing.
-use Rattle.std.proofs.Common.{◌≡◌, ℕ, ◌+◌, ◌-◌, ◌<◌, ◌≤◌, true, false, cond, not, eqb, ◌≢◌, List, [], ◌∷◌, ◌++◌, length, get_or, set, sym, refl, ap, ◌∙◌, subst, ⊎_elim, arith}
-use Rattle.std.proofs.lemmas.List.{get_or-set_same, get_or-set_other, length_push}
+use Rattle.std.proofs.Common.{◌≡◌, ℕ, ◌+◌, ◌-◌, ◌<◌, ◌≤◌, true, false, cond, not, eqb, ◌≢◌, List, [], ◌∷◌, ◌++◌, length, get_or, set, replicate, sym, refl, ap, ◌∙◌, subst, ⊎_elim, arith}
+use Rattle.std.proofs.lemmas.List.{get_or-replicate, get_or-set_same, get_or-set_other, length_push}
 use Rattle.std.proofs.lemmas.Bool.{and_parts, or_parts, or_from, not-true, both_ways, eqb-true, eq-eqb, ne_eqb, cond-true, cond-false, cases_eq, cases_Bool}
 use Rattle.pending.specs.Numbers.{has, distinct, ends}
 use Rattle.pending.specs.Chains.{chain, linked, Linked, Distinct, Ended, Clear, Counted}
@@ -67,10 +67,25 @@ module _ (head tail : ℕ) (next : List ℕ) (len : ℕ) where
       (λ h. ne_eqb tail k (λ f. both_ways (has k (x ∷ xs)) h (subst (λ i. has i (x ∷ xs) ≡ true) (s.lasts ∙ f) (has_ends x xs))) ∙ sym h)
       (cases_Bool (has k (x ∷ xs)))
 
+pub list_is_empty : {K : Type 0} (p : PendingList K) → eqb p.head 255 ≡ is_empty (order p)
+list_is_empty p = head_tells _ _ _ _ _ (stands p)
+
+pub list_has : {K : Type 0} (p : PendingList K) (k : ℕ) → k < 255 → get_or p.next k 0 ≡ 255 → eqb p.tail k ≡ has k (order p)
+list_has p k b e = tail_tells _ _ _ _ k _ (stands p) b e
+
 -- ---- a store of none
 pub stands_none : (next : List ℕ) → ((k : ℕ) → k < 255 → get_or next k 0 ≡ 255) → Stands 255 255 next 0 []
 unfolding linked distinct ends
 stands_none next h = record { links = refl; once = refl; lasts = refl; clears = λ k b _. h k b; counts = refl }
+
+fresh : Stands 255 255 (replicate 255 255) 0 []
+fresh = stands_none _ (λ k b. get_or-replicate 255 k 255 0 b)
+
+pub fresh_facts : Facts 255 255 (replicate 255 255) 0
+fresh_facts = facts fresh
+
+pub fresh_chain : chain 255 (replicate 255 255) ≡ []
+fresh_chain = chain_is fresh
 
 -- ---- one more
 stands_one : (k : ℕ) (next : List ℕ) → k < 255 → ((j : ℕ) → j < 255 → get_or next j 0 ≡ 255) → Stands k k next 1 (k ∷ [])

@@ -1,5 +1,5 @@
 // The once-pending list.
-ghost use Rattle.std.specs.Prelude.{◌≡◌, true, false, [], ◌∷◌, ◌++◌, length, replicate, if◌then◌else◌, nat_eq, slice_index, slice_set};
+ghost use Rattle.std.specs.Prelude.{◌≡◌, true, false, [], ◌∷◌, ◌++◌, length, slice_index, slice_set};
 ghost use Rattle.std.specs.Option.{option_map};
 ghost use Rattle.pending.specs.Numbers.{has, distinct};
 ghost use Rattle.pending.specs.Chains.{Linked, Distinct, Ended, Clear, Counted};
@@ -8,6 +8,7 @@ ghost use Rattle.pending.specs.Orders.{is_empty, add_answer, added, oldest, rest
 use crate::key::{Key, NONE};
 use calls::refusal::Refusal;
 use std::marker::PhantomData;
+use std::mem;
 
 // Keys in their order of arrival, each at most once: their numbers are linked.
 // In head, tail and table 255 stands for none: a number's next one is 255 if it is the last, or not there at all.
@@ -29,13 +30,14 @@ pub struct PendingList<K> {
 impl<K: Key> PendingList<K> {
     ghost use Rattle.pending.specs.Lists.{order};
 
+    #[tactic(auto, using(crate::proofs::Stores::fresh_facts, crate::proofs::Stores::fresh_chain))]
     pub fn new() -> PendingList<K>
         ensures { order result ≡ [] }
     {
         PendingList {
             head: NONE,
             tail: NONE,
-            next: no_links(),
+            next: [NONE; 255],
             len: 0,
             kind: PhantomData,
         }
@@ -49,12 +51,14 @@ impl<K: Key> PendingList<K> {
         self.len
     }
 
+    #[tactic(auto, using(crate::proofs::Stores::list_is_empty))]
     pub fn is_empty(&self) -> bool
         ensures { result ≡ is_empty (order self.now) }
     {
         self.head == NONE
     }
 
+    #[tactic(auto, using(crate::proofs::Stores::list_has))]
     pub fn is_pending(&self, key: &K) -> bool
         ensures { result ≡ has (K.code key.now) (order self.now) }
     {
@@ -83,7 +87,9 @@ impl<K: Key> PendingList<K> {
     {
         let first = K::from_number(self.head)?;
         self.head = unlink(&mut self.next, &first);
-        self.tail = tail_behind(self.head, self.tail);
+        if self.head == NONE {
+            self.tail = NONE;
+        }
         self.len -= 1;
         Some(first)
     }
@@ -105,27 +111,10 @@ impl<K: Key> PendingList<K> {
     }
 }
 
-// The table of a list without numbers.
-fn no_links() -> [u8; 255]
-    ensures { result ≡ replicate 255 255 }
-{
-    [NONE; 255]
-}
-
 // Takes the number that is next to the key's out of the table.
 fn unlink<K: Key>(next: &mut [u8; 255], key: &K) -> u8
     ensures answer { result ≡ slice_index next.old (K.code key.now) }
     ensures moves { next.new ≡ slice_set next.old (K.code key.now) 255 }
 {
-    let number = key.number() as usize;
-    let second = next[number];
-    next[number] = NONE;
-    second
-}
-
-// The tail of what begins with `head`, if it is not empty.
-fn tail_behind(head: u8, tail: u8) -> u8
-    ensures { result ≡ (if nat_eq head 255 then 255 else tail) }
-{
-    if head == NONE { NONE } else { tail }
+    mem::replace(&mut next[key.number() as usize], NONE)
 }
