@@ -10,6 +10,7 @@ use Rattle.std.proofs.lemmas.Nat.Bits.{bit_at_and, bit_at_or, bit_at-pow_same, b
 use Rattle.line.specs.Lines.{waiting}
 use Rattle.line.specs.Turns.{bit, with_bit, without_bit}
 use Rattle.line.specs.Waiting.{same_wait}
+use Rattle.std.proofs.lemmas.Grind.{common_steps}
 
 -- ---- a word of n bits has none above
 pub bit_high : (w n d : ℕ) → w < 2 ^ n → n ≤ d → bit w d ≡ false
@@ -82,7 +83,7 @@ top_bit w n h = let e : 1 + n ≡ suc n = omega arith in ones_two (w / 2 ^ n) (s
 
 pub ones_waiting : (n w : ℕ) → w < 2 ^ n → ones w ≡ waiting (bit w) n
 unfolding waiting
-ones_waiting zero w h = let e : w ≡ 0 = omega arith in ap ones e ∙ ones_two 0 (omega arith)
+ones_waiting zero w h = grind (arith, common_steps)
 ones_waiting (suc n) w h =
     let r = w % 2 ^ n in
     let b : r < 2 ^ n = mod_below w (2 ^ n) (pow_pos n) in

@@ -1,8 +1,7 @@
 -- A first-come line carries a queue of arrivals. Assumes nothing.
-use Rattle.std.specs.Prelude.{◌≡◌, ℕ, ◌≤◌, true, false, not, List, [], ◌∷◌, length, is_some, Some, None, Option}
-use Rattle.std.proofs.Common.{sym, ap, arith}
+use Rattle.std.specs.Prelude.{◌≡◌, ℕ, ◌≤◌, true, false, List, [], ◌∷◌, length, Some, None, Option}
+use Rattle.std.proofs.Common.{sym, arith}
 use Rattle.std.proofs.lemmas.Bool.Decides.{nat_tests}
-use Rattle.std.proofs.lemmas.Bool.{both_ways}
 use Rattle.pending.specs.Numbers.{below}
 use Rattle.pending.specs.Orders.{oldest, rest}
 use Rattle.pending.specs.Ids.{Client}
@@ -12,6 +11,7 @@ use Rattle.line.specs.FirstCome.{arrivals, view}
 use Rattle.line.specs.declared.first_come.FirstCome.{FirstCome}
 use Rattle.pending.proofs.Lists.{once}
 use Rattle.line.specs.ArrivalsLemmas.{Queue, queue_pop, queue_took}
+use Rattle.std.proofs.lemmas.Grind.{common_steps}
 
 pub queue : (l : FirstCome) → Queue l.size.clients l.size.places (arrivals l)
 queue l = record { few = l.size.few; some = l.size.some; fitting = l.size.fitting; once = once l.queue; placed = l.placed; known = l.known }
@@ -34,5 +34,5 @@ took n k (x ∷ xs) ys g q e m =
 -- what a take of the list is to the line, whose size stays
 pub queue_take : (before : FirstCome) (r : Option Client) (after : FirstCome) → after.size ≡ before.size
     → is_empty (view before) ≡ false → number_of r ≡ oldest (arrivals before) → arrivals after ≡ rest (arrivals before) → Takes view before r after
-queue_take before None after s some e m = absurd (both_ways _ some (ap (λ o. not (is_some o)) (sym e)))
+queue_take before None after s some e m = grind (arith, common_steps)
 queue_take before (Some g) after s some e m = rw s (took _ _ _ _ g.number (queue before) (sym e) m)

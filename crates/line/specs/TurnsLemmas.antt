@@ -1,7 +1,6 @@
 -- A word of bits and the client last taken are a line. Assumes nothing.
 use Rattle.std.specs.Prelude.{◌≡◌, ℕ, ◌+◌, ◌-◌, ◌/◌, ◌^◌, ◌<◌, ◌≤◌, true, false, not, ◌≢◌, ◌⊎◌, Some, None, Option, refl}
-use Rattle.std.proofs.Common.{sym, ap, subst, ◌∙◌, inl, inr, ⊎_elim, arith, mod-eq_of_lt}
-use Rattle.std.proofs.Math.Nat.{mod-eq-sub-mod}
+use Rattle.std.proofs.Common.{sym, ap, subst, ◌∙◌, inl, inr, ⊎_elim, arith}
 use Rattle.std.specs.Int.Count.{count_trailing_zeros}
 use Rattle.std.proofs.lemmas.Nat.{pow_below, shr_le, and_le_l, or_lt}
 use Rattle.std.proofs.lemmas.Bool.Decides.{nat_tests}
@@ -11,19 +10,16 @@ use Rattle.line.specs.Turns.{bit, with_bit, without_bit, turns_before, least, tu
 use Rattle.line.specs.Bits.{bit_below, bit_set, bit_clear, bit_none, bit_shift, lowest}
 use Rattle.line.specs.Waiting.{at_most}
 use Rattle.line.specs.Least.{least_some, least_none, least_is, least_nobody}
+use Rattle.std.proofs.lemmas.Grind.{common_steps}
 
 -- ---- how many have their turn before
 before_later : (n last c : ℕ) → last < c → c < n → turns_before n last c ≡ c - (last + 1)
 unfolding turns_before
-before_later n last c l h =
-    let e : ((c + n) - (last + 1)) - n ≡ c - (last + 1) = omega arith in
-    let a : n ≤ (c + n) - (last + 1) = omega arith in
-    let b : ((c + n) - (last + 1)) - n < n = omega arith in
-    mod-eq-sub-mod a ∙ mod-eq_of_lt b ∙ e
+before_later n last c l h = grind (arith, common_steps)
 
 before_earlier : (n last c : ℕ) → c ≤ last → last < n → turns_before n last c ≡ (c + n) - (last + 1)
 unfolding turns_before
-before_earlier n last c l h = let b : (c + n) - (last + 1) < n = omega arith in mod-eq_of_lt b
+before_earlier n last c l h = grind (arith, common_steps)
 
 before_cases : (n last c : ℕ) → last < n → c < n → ((last < c) × (turns_before n last c ≡ c - (last + 1))) ⊎ ((c ≤ last) × (turns_before n last c ≡ (c + n) - (last + 1)))
 before_cases n last c l h = ⊎_elim

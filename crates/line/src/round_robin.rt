@@ -1,5 +1,5 @@
 // The line that serves its clients in turn.
-ghost use Rattle.std.specs.Prelude.{◌≡◌, ◌^◌, ◌<◌, ◌≤◌, false, IfSome, IfOk, Some, ◌==◌, unwrap_or};
+ghost use Rattle.std.specs.Prelude.{◌≡◌, ◌^◌, ◌<◌, ◌≤◌, IfSome, IfOk, Some, ◌==◌, unwrap_or};
 ghost use Rattle.std.specs.Result.{result_err};
 ghost use Rattle.line.specs.Lines.{waiting, put_answer, Put, Took, Puts, Takes, number_of};
 ghost use Rattle.line.specs.Making.{make_refusal};

@@ -5,7 +5,6 @@ use calls::refusal::Refusal;
 use line::first_come::FirstCome;
 use line::line::Line;
 use line::round_robin::RoundRobin;
-use pending::client::Client;
 use pending::key::{Key, NONE};
 use pending::list::PendingList;
 use pending::task::Task;

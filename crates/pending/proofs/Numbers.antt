@@ -3,6 +3,7 @@ use Rattle.std.proofs.Common.{◌≡◌, ℕ, zero, suc, ◌+◌, ◌<◌, ◌�
 use Rattle.std.proofs.lemmas.Bool.Decides.{nat_tests}
 use Rattle.std.proofs.lemmas.Bool.{and_parts, and_from, or_parts, or_right, not-true, eqb-true, ltb-true, lt-ltb, cond-true, cond-false, cases_Bool}
 use Rattle.pending.specs.Numbers.{has, distinct, below, ends}
+use Rattle.std.proofs.lemmas.Grind.{common_steps}
 
 -- ---- one more at the end
 pub has_push : (k y : ℕ) (xs : List ℕ) → has k (xs ++ y ∷ []) ≡ (has k xs || eqb k y)
@@ -93,5 +94,5 @@ below_without n (x ∷ xs) b =
 pub length_below : (n : ℕ) (xs : List ℕ) → distinct xs ≡ true → below n xs ≡ true → length xs ≤ n
 unfolding below
 length_below zero [] d b = omega arith
-length_below zero (x ∷ xs) d b = absurd (omega (arith, ltb-true x 0 (and_parts (ltb x 0) _ b).0))
+length_below zero (x ∷ xs) d b = grind (arith, common_steps)
 length_below (suc n) xs d b = omega (arith, length_without n xs d, length_below n (without n xs) (distinct_without n xs d) (below_without n xs b))

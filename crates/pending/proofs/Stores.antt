@@ -1,7 +1,7 @@
 -- A store stands for a list of numbers: what each change of the store does to the list. Assumes nothing.
 use Rattle.std.proofs.Common.{◌≡◌, ℕ, ◌+◌, ◌-◌, ◌<◌, ◌≤◌, true, false, cond, not, eqb, ◌≢◌, List, [], ◌∷◌, ◌++◌, length, get_or, set, replicate, sym, refl, ap, ◌∙◌, subst, ⊎_elim, arith}
 use Rattle.std.proofs.lemmas.List.{get_or-replicate, get_or-set_same, get_or-set_other, length_push}
-use Rattle.std.proofs.lemmas.Bool.{and_parts, or_parts, or_from, not-true, both_ways, eqb-true, eq-eqb, ne_eqb, cond-true, cond-false, cases_eq, cases_Bool}
+use Rattle.std.proofs.lemmas.Bool.{and_parts, or_parts, or_from, not-true, both_ways, eqb-true, eq-eqb, ne_eqb, cond-true, cases_eq, cases_Bool}
 use Rattle.pending.specs.Numbers.{has, distinct, ends}
 use Rattle.pending.specs.Chains.{chain, linked, Linked, Distinct, Ended, Clear, Counted}
 use Rattle.pending.specs.Orders.{is_empty}
@@ -9,6 +9,7 @@ use Rattle.pending.specs.Lists.{order}
 use Rattle.pending.specs.declared.list.PendingList.{PendingList}
 use Rattle.pending.proofs.Numbers.{has_push, distinct_push, below_push, ends_push, has_ends, ends_below, length_below}
 use Rattle.pending.proofs.Chains.{link, linked_from, walk_linked, linked_below, linked_next, linked_frame, linked_push}
+use Rattle.std.proofs.lemmas.Grind.{common_steps}
 
 pub record Stands (head tail : ℕ) (next : List ℕ) (len : ℕ) (xs : List ℕ) : Type 0 where
   pub links : linked next head xs ≡ true
@@ -42,7 +43,7 @@ module _ (head tail : ℕ) (next : List ℕ) (len : ℕ) where
   pub head_tells : (xs : List ℕ) → Stands head tail next len xs → eqb head 255 ≡ is_empty xs
   unfolding linked
   head_tells [] s = s.links
-  head_tells (x ∷ xs) s = let p = link next head x xs s.links in ne_eqb head 255 (λ e. omega (arith, p.met, p.small))
+  head_tells (x ∷ xs) s = grind (arith, common_steps)
 
   pub head_none : (xs : List ℕ) → Stands head tail next len xs → head ≡ 255 → xs ≡ []
   head_none [] s e = refl
@@ -51,7 +52,7 @@ module _ (head tail : ℕ) (next : List ℕ) (len : ℕ) where
   pub head_first : (xs : List ℕ) → Stands head tail next len xs → (head ≡ 255 → ⊥) → (ys : List ℕ) × (xs ≡ head ∷ ys)
   unfolding linked
   head_first [] s ne = absurd (ne (eqb-true head 255 s.links))
-  head_first (x ∷ xs) s ne = (xs, ap (λ y. y ∷ xs) (link next head x xs s.links).met)
+  head_first (x ∷ xs) s ne = grind (arith, common_steps)
 
   pub tail_none : (xs : List ℕ) → Stands head tail next len xs → tail ≡ 255 → xs ≡ []
   unfolding ends
@@ -132,10 +133,7 @@ room {head} {tail} {next} {len} k xs b h s =
 pop_ends : (x : ℕ) (xs next : List ℕ) (tail : ℕ) → linked next (get_or next x 0) xs ≡ true → ends x xs ≡ tail → ends 255 xs ≡ cond (eqb (get_or next x 0) 255) 255 tail
 unfolding linked ends
 pop_ends x [] next tail l e = sym (cond-true _ _ _ l)
-pop_ends x (y ∷ ys) next tail l e =
-    let p = link next (get_or next x 0) y ys l in
-    let b : get_or next x 0 ≡ 255 → ⊥ = λ f. omega (arith, p.met, p.small) in
-    e ∙ sym (cond-false (eqb (get_or next x 0) 255) 255 tail (ne_eqb _ _ b))
+pop_ends x (y ∷ ys) next tail l e = grind (arith, common_steps)
 
 stands_pop : (head tail x : ℕ) (next : List ℕ) (len : ℕ) (xs : List ℕ) → length next ≡ 255 → Stands head tail next len (x ∷ xs)
     → Stands (get_or next x 0) (cond (eqb (get_or next x 0) 255) 255 tail) (set next x 255) (len - 1) xs
