@@ -4,13 +4,14 @@ use Rattle.std.proofs.Math.Path.{refl, sym}
 use Rattle.std.proofs.Common.{ap, ◌∙◌, ⊎_elim, arith}
 use Rattle.std.proofs.lemmas.List.{length_push}
 use Rattle.std.proofs.lemmas.Bool.Decides.{nat_tests}
-use Rattle.std.proofs.lemmas.Bool.{and_parts, or_cases, or_left, or_right, not-true, both_ways, eqb-true, eq-eqb, ne_eqb, ltb-true, cond-true, cond-false, cases_Bool}
+use Rattle.std.proofs.lemmas.Bool.{and_parts, or_left, or_right, not-true, both_ways, eq-eqb, ne_eqb, ltb-true, cond-false, cases_Bool}
 use Rattle.pending.specs.Numbers.{has, distinct, below}
 use Rattle.pending.specs.Orders.{oldest}
 use Rattle.pending.proofs.Numbers.{has_push, distinct_push, below_push}
 use Rattle.line.specs.Lines.{LineLaw, Put, Took, waiting}
 use Rattle.line.specs.Arrivals.{in_front, arrivals_view}
 use Rattle.line.specs.Waiting.{nobody_waits, one_more}
+use Rattle.std.proofs.lemmas.Grind.{common_steps}
 
 -- a list of arrivals, of n clients in k places
 pub record Queue (n k : ℕ) (xs : List ℕ) : Type 0 where
@@ -24,9 +25,7 @@ pub record Queue (n k : ℕ) (xs : List ℕ) : Type 0 where
 pub has_below : (n c : ℕ) (xs : List ℕ) → below n xs ≡ true → has c xs ≡ true → c < n
 unfolding below has
 has_below n c [] b h = absurd (both_ways false refl h)
-has_below n c (x ∷ xs) b h =
-    let p = and_parts (nat_lt x n) _ b in
-    ⊎_elim (λ e. omega (arith, eqb-true c x e, ltb-true x n p.0)) (λ m. has_below n c xs p.1 m) (or_cases (c == x) _ h)
+has_below n c (x ∷ xs) b h = let r = has_below n c xs in grind (arith, common_steps)
 
 pub has_above : (n c : ℕ) (xs : List ℕ) → below n xs ≡ true → n ≤ c → has c xs ≡ false
 has_above n c xs b l = ⊎_elim (λ (h : has c xs ≡ true). absurd (omega (arith, has_below n c xs b h))) (λ h. h) (cases_Bool (has c xs))
@@ -35,21 +34,12 @@ has_above n c xs b l = ⊎_elim (λ (h : has c xs ≡ true). absurd (omega (arit
 front_below : (c : ℕ) (xs : List ℕ) → has c xs ≡ true → in_front c xs < length xs
 unfolding in_front has
 front_below c [] h = absurd (both_ways false refl h)
-front_below c (x ∷ xs) h = ⊎_elim
-    (λ e. let i : in_front c (x ∷ xs) ≡ 0 = cond-true (c == x) _ _ e in omega (arith, i))
-    (λ e.
-    let i : in_front c (x ∷ xs) ≡ suc (in_front c xs) = cond-false (c == x) _ _ e in
-    let m : has c xs ≡ true = grind (arith, h, e) in
-    omega (arith, i, front_below c xs m))
-    (cases_Bool (c == x))
+front_below c (x ∷ xs) h = let r = front_below c xs in grind (arith, common_steps)
 
 front_push : (d k : ℕ) (xs : List ℕ) → has d xs ≡ true → in_front d (xs ++ k ∷ []) ≡ in_front d xs
 unfolding in_front has
 front_push d k [] h = absurd (both_ways false refl h)
-front_push d k (x ∷ xs) h = ⊎_elim
-    (λ e. cond-true (d == x) _ _ e ∙ sym (cond-true (d == x) _ _ e))
-    (λ e. cond-false (d == x) _ _ e ∙ ap suc (front_push d k xs (grind (arith, h, e))) ∙ sym (cond-false (d == x) _ _ e))
-    (cases_Bool (d == x))
+front_push d k (x ∷ xs) h = let r = front_push d k xs in grind (arith, common_steps)
 
 -- ---- as many wait as the list is long
 pub queue_waiting : (n : ℕ) (xs : List ℕ) → distinct xs ≡ true → below n xs ≡ true → waiting (λ c. has c xs) n ≡ length xs

@@ -3,7 +3,7 @@ use Rattle.std.specs.Prelude.{◌≡◌, ℕ, zero, suc, ◌<◌, ◌≤◌, Boo
 use Rattle.std.proofs.Common.{sym, ap, ◌∙◌, arith}
 use Rattle.std.proofs.Math.Path.{subst}
 use Rattle.std.proofs.Math.Logic.{⊎_elim}
-use Rattle.std.proofs.lemmas.Bool.{both_ways, cond-true, cond-false, cases_Bool, cases_eq}
+use Rattle.std.proofs.lemmas.Bool.{both_ways, cases_eq}
 use Rattle.line.specs.Turns.{sooner, least}
 use Rattle.std.proofs.lemmas.Grind.{common_steps}
 
@@ -45,10 +45,7 @@ module _ (waits : ℕ → Bool) (patience : ℕ → ℕ) where
   pub least_law : (n : ℕ) → Least n (least waits patience n)
   unfolding least
   least_law zero = λ d l. absurd (omega arith)
-  least_law (suc n) = ⊎_elim
-      (λ (w : waits n ≡ true). subst (Least (suc n)) (sym (cond-true (waits n) _ _ w)) (meet n _ w (least_law n)))
-      (λ (w : waits n ≡ false). subst (Least (suc n)) (sym (cond-false (waits n) _ _ w)) (pass n _ w (least_law n)))
-      (cases_Bool (waits n))
+  least_law (suc n) = let r = least_law n in grind (arith, common_steps)
 
   pub least_some : (n g : ℕ) → least waits patience n ≡ Some g → Found n g
   least_some n g e = subst (Least n) e (least_law n)
