@@ -1,10 +1,10 @@
 -- A list of arrivals is a line. Assumes nothing.
-use Rattle.std.specs.Prelude.{◌≡◌, ℕ, suc, ◌<◌, ◌≤◌, true, false, not, ◌||◌, List, [], ◌∷◌, ◌++◌, length, Some, None, ◌==◌, nat_lt}
-use Rattle.std.proofs.Math.Path.{refl, sym}
+use Rattle.std.specs.Prelude.{◌≡◌, ℕ, suc, ◌<◌, ◌≤◌, true, false, not, List, [], ◌∷◌, ◌++◌, length, Some, None, ◌==◌, nat_lt}
+use Rattle.std.proofs.Math.Path.{refl}
 use Rattle.std.proofs.Common.{ap, ◌∙◌, ⊎_elim, arith}
 use Rattle.std.proofs.lemmas.List.{length_push}
 use Rattle.std.proofs.lemmas.Bool.Decides.{nat_tests}
-use Rattle.std.proofs.lemmas.Bool.{and_parts, or_left, or_right, not-true, both_ways, eq-eqb, ne_eqb, ltb-true, cond-false, cases_Bool}
+use Rattle.std.proofs.lemmas.Bool.{and_parts, or_left, or_right, not-true, both_ways, eq-eqb, ne_eqb, ltb-true, cases_Bool}
 use Rattle.pending.specs.Numbers.{has, distinct, below}
 use Rattle.pending.specs.Orders.{oldest}
 use Rattle.pending.proofs.Numbers.{has_push, distinct_push, below_push}
@@ -104,9 +104,9 @@ module _ (n k : ℕ) where
     few = q.few;
     some = q.some;
     fitting = q.fitting;
-    once = (and_parts (not (has g xs)) _ q.once).1;
+    once = grind (arith, common_steps);
     placed = omega (arith, q.placed);
-    known = (and_parts (nat_lt g n) _ q.known).1;
+    known = grind (arith, common_steps);
   }
 
   pub queue_took : (g : ℕ) (xs : List ℕ) → Queue n k (g ∷ xs) → Took (arrivals_view n k (g ∷ xs)) g (arrivals_view n k xs)
@@ -115,7 +115,7 @@ module _ (n k : ℕ) where
     same = refl;
     law = queue_law xs (queue_pop g xs q);
     next = refl;
-    takes = not-true _ (and_parts (not (has g xs)) _ q.once).0;
-    others = λ x e. sym (ap (λ t. t || has x xs) (ne_eqb x g e));
-    falls = λ x e h. let i : in_front x (g ∷ xs) ≡ suc (in_front x xs) = cond-false (x == g) _ _ (ne_eqb x g e) in omega (arith, i);
+    takes = grind (arith, common_steps);
+    others = λ x e. grind (arith, common_steps);
+    falls = λ x e h. grind (arith, common_steps);
   }

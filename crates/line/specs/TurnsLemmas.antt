@@ -1,10 +1,10 @@
 -- A word of bits and the client last taken are a line. Assumes nothing.
-use Rattle.std.specs.Prelude.{◌≡◌, ℕ, ◌+◌, ◌-◌, ◌/◌, ◌^◌, ◌<◌, ◌≤◌, true, false, not, ◌≢◌, ◌⊎◌, Some, None, Option, refl}
+use Rattle.std.specs.Prelude.{◌≡◌, ℕ, ◌+◌, ◌-◌, ◌/◌, ◌^◌, ◌<◌, ◌≤◌, true, false, ◌≢◌, ◌⊎◌, Some, None, Option, refl}
 use Rattle.std.proofs.Common.{sym, ap, subst, ◌∙◌, inl, inr, ⊎_elim, arith}
 use Rattle.std.specs.Int.Count.{count_trailing_zeros}
 use Rattle.std.proofs.lemmas.Nat.{pow_below, shr_le, and_le_l, or_lt}
 use Rattle.std.proofs.lemmas.Bool.Decides.{nat_tests}
-use Rattle.std.proofs.lemmas.Bool.{both_ways, or_right, and_right, eq-eqb, ne_eqb, cases_Bool, cases_eq, cases_lt}
+use Rattle.std.proofs.lemmas.Bool.{both_ways, or_right, eq-eqb, ne_eqb, cases_Bool, cases_eq, cases_lt}
 use Rattle.line.specs.Lines.{LineLaw, Put, Took}
 use Rattle.line.specs.Turns.{bit, with_bit, without_bit, turns_before, least, turns_view}
 use Rattle.line.specs.Bits.{bit_below, bit_set, bit_clear, bit_none, bit_shift, lowest}
@@ -159,8 +159,8 @@ module _ (n last w : ℕ) (o : Round n last w) where
         same = refl;
         law = round_law n g (without_bit w g) (round_clear n last w o g f.inside);
         next = e;
-        takes = clear g ∙ and_right (bit w g) _ (ap not (eq-eqb g g refl));
-        others = λ x ne. clear x ∙ (grind (arith, nat_tests, ne_eqb x g ne));
+        takes = grind (arith, common_steps);
+        others = λ x ne. grind (arith, common_steps);
         falls = λ x ne h.
             let b = bit_below w n x o.known h in
             let apart : turns_before n last g ≢ turns_before n last x = λ q. ne (sym (before_apart n last g x o.inside f.inside b q)) in

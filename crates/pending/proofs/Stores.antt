@@ -8,7 +8,7 @@ use Rattle.pending.specs.Orders.{is_empty}
 use Rattle.pending.specs.Lists.{order}
 use Rattle.pending.specs.declared.list.PendingList.{PendingList}
 use Rattle.pending.proofs.Numbers.{has_push, distinct_push, below_push, ends_push, has_ends, ends_below, length_below}
-use Rattle.pending.proofs.Chains.{link, linked_from, walk_linked, linked_below, linked_next, linked_frame, linked_push}
+use Rattle.pending.proofs.Chains.{link, walk_linked, linked_below, linked_next, linked_frame, linked_push}
 use Rattle.std.proofs.lemmas.Grind.{common_steps}
 
 pub record Stands (head tail : ℕ) (next : List ℕ) (len : ℕ) (xs : List ℕ) : Type 0 where
@@ -92,7 +92,7 @@ fresh_chain = chain_is fresh
 stands_one : (k : ℕ) (next : List ℕ) → k < 255 → ((j : ℕ) → j < 255 → get_or next j 0 ≡ 255) → Stands k k next 1 (k ∷ [])
 unfolding has linked distinct ends
 stands_one k next b c = record {
-  links = linked_from next k k [] refl b (eq-eqb _ _ (c k b));
+  links = grind (arith, common_steps);
   once = refl;
   lasts = refl;
   clears = λ j h _. c j h;
@@ -121,7 +121,7 @@ module _ (head tail k : ℕ) (next : List ℕ) (len : ℕ) where
         let p = or_parts (has j (x ∷ xs)) _ (sym (has_push j k (x ∷ xs)) ∙ m) in
         let ne : j ≢ tail = λ e. both_ways (has j (x ∷ xs)) p.0 (subst (λ i. has i (x ∷ xs) ≡ true) (s.lasts ∙ sym e) (has_ends x xs)) in
         rw get_or-set_other (s.clears j c p.0);
-    counts = omega (arith, s.counts, length_push (x ∷ xs) k);
+    counts = grind (arith, common_steps);
   }
 
 -- there is room for one more
