@@ -1,16 +1,17 @@
 -- A list of arrivals is a line. Assumes nothing.
-use Rattle.std.specs.Prelude.{◌≡◌, ℕ, suc, ◌<◌, ◌≤◌, true, false, not, ◌||◌, List, [], ◌∷◌, ◌++◌, length, Some, None, ◌==◌, nat_lt}
-use Rattle.std.proofs.Math.Path.{refl, sym}
+use Rattle.std.specs.Prelude.{◌≡◌, ℕ, suc, ◌<◌, ◌≤◌, true, false, not, List, [], ◌∷◌, ◌++◌, length, Some, None, ◌==◌, nat_lt}
+use Rattle.std.proofs.Math.Path.{refl}
 use Rattle.std.proofs.Common.{ap, ◌∙◌, ⊎_elim, arith}
 use Rattle.std.proofs.lemmas.List.{length_push}
 use Rattle.std.proofs.lemmas.Bool.Decides.{nat_tests}
-use Rattle.std.proofs.lemmas.Bool.{and_parts, or_cases, or_left, or_right, not-true, both_ways, eqb-true, eq-eqb, ne_eqb, ltb-true, cond-true, cond-false, cases_Bool}
+use Rattle.std.proofs.lemmas.Bool.{and_parts, or_left, or_right, not-true, both_ways, eq-eqb, ne_eqb, ltb-true, cases_Bool}
 use Rattle.pending.specs.Numbers.{has, distinct, below}
 use Rattle.pending.specs.Orders.{oldest}
 use Rattle.pending.proofs.Numbers.{has_push, distinct_push, below_push}
 use Rattle.line.specs.Lines.{LineLaw, Put, Took, waiting}
-use Rattle.line.specs.Arrivals.{in_front, arrivals_capacity, arrivals_view}
+use Rattle.line.specs.Arrivals.{in_front, arrivals_view}
 use Rattle.line.specs.Waiting.{nobody_waits, one_more}
+use Rattle.std.proofs.lemmas.Grind.{common_steps}
 
 -- a list of arrivals, of n clients in k places
 pub record Queue (n k : ℕ) (xs : List ℕ) : Type 0 where
@@ -24,29 +25,21 @@ pub record Queue (n k : ℕ) (xs : List ℕ) : Type 0 where
 pub has_below : (n c : ℕ) (xs : List ℕ) → below n xs ≡ true → has c xs ≡ true → c < n
 unfolding below has
 has_below n c [] b h = absurd (both_ways false refl h)
-has_below n c (x ∷ xs) b h =
-    let p = and_parts (nat_lt x n) _ b in
-    ⊎_elim (λ e. omega (arith, eqb-true c x e, ltb-true x n p.0)) (λ m. has_below n c xs p.1 m) (or_cases (c == x) _ h)
+has_below n c (x ∷ xs) b h = let r = has_below n c xs in grind (arith, common_steps)
+
+pub has_above : (n c : ℕ) (xs : List ℕ) → below n xs ≡ true → n ≤ c → has c xs ≡ false
+has_above n c xs b l = ⊎_elim (λ (h : has c xs ≡ true). absurd (omega (arith, has_below n c xs b h))) (λ h. h) (cases_Bool (has c xs))
 
 -- ---- how many stand in front
 front_below : (c : ℕ) (xs : List ℕ) → has c xs ≡ true → in_front c xs < length xs
 unfolding in_front has
 front_below c [] h = absurd (both_ways false refl h)
-front_below c (x ∷ xs) h = ⊎_elim
-    (λ e. let i : in_front c (x ∷ xs) ≡ 0 = cond-true (c == x) _ _ e in omega (arith, i))
-    (λ e.
-    let i : in_front c (x ∷ xs) ≡ suc (in_front c xs) = cond-false (c == x) _ _ e in
-    let m : has c xs ≡ true = grind (arith, h, e) in
-    omega (arith, i, front_below c xs m))
-    (cases_Bool (c == x))
+front_below c (x ∷ xs) h = let r = front_below c xs in grind (arith, common_steps)
 
 front_push : (d k : ℕ) (xs : List ℕ) → has d xs ≡ true → in_front d (xs ++ k ∷ []) ≡ in_front d xs
 unfolding in_front has
 front_push d k [] h = absurd (both_ways false refl h)
-front_push d k (x ∷ xs) h = ⊎_elim
-    (λ e. cond-true (d == x) _ _ e ∙ sym (cond-true (d == x) _ _ e))
-    (λ e. cond-false (d == x) _ _ e ∙ ap suc (front_push d k xs (grind (arith, h, e))) ∙ sym (cond-false (d == x) _ _ e))
-    (cases_Bool (d == x))
+front_push d k (x ∷ xs) h = let r = front_push d k xs in grind (arith, common_steps)
 
 -- ---- as many wait as the list is long
 pub queue_waiting : (n : ℕ) (xs : List ℕ) → distinct xs ≡ true → below n xs ≡ true → waiting (λ c. has c xs) n ≡ length xs
@@ -74,7 +67,7 @@ module _ (n k : ℕ) where
   unfolding distinct below
   queue_none f s t = record { few = f; some = s; fitting = t; once = refl; placed = omega arith; known = refl }
 
-  pub queue_law : (xs : List ℕ) → Queue n k xs → LineLaw (arrivals_capacity n k) (arrivals_view xs)
+  pub queue_law : (xs : List ℕ) → Queue n k xs → LineLaw (arrivals_view n k xs)
   queue_law xs q = record {
     narrow = omega (arith, q.few, q.fitting);
     client = λ c h. has_below n c xs q.known h;
@@ -95,8 +88,9 @@ module _ (n k : ℕ) where
     known = below_push n c xs q.known l;
   }
 
-  pub queue_put : (c : ℕ) (xs : List ℕ) → Queue n k (xs ++ c ∷ []) → Put (arrivals_capacity n k) (arrivals_view xs) c (arrivals_view (xs ++ c ∷ []))
+  pub queue_put : (c : ℕ) (xs : List ℕ) → Queue n k (xs ++ c ∷ []) → Put (arrivals_view n k xs) c (arrivals_view n k (xs ++ c ∷ []))
   queue_put c xs q = record {
+    same = refl;
     law = queue_law (xs ++ c ∷ []) q;
     puts = has_push c c xs ∙ or_right (has c xs) _ (eq-eqb c c refl);
     others = λ x e. has_push x c xs ∙ (grind (arith, nat_tests, ne_eqb x c e));
@@ -110,17 +104,18 @@ module _ (n k : ℕ) where
     few = q.few;
     some = q.some;
     fitting = q.fitting;
-    once = (and_parts (not (has g xs)) _ q.once).1;
+    once = grind (arith, common_steps);
     placed = omega (arith, q.placed);
-    known = (and_parts (nat_lt g n) _ q.known).1;
+    known = grind (arith, common_steps);
   }
 
-  pub queue_took : (g : ℕ) (xs : List ℕ) → Queue n k (g ∷ xs) → Took (arrivals_capacity n k) (arrivals_view (g ∷ xs)) g (arrivals_view xs)
+  pub queue_took : (g : ℕ) (xs : List ℕ) → Queue n k (g ∷ xs) → Took (arrivals_view n k (g ∷ xs)) g (arrivals_view n k xs)
   unfolding distinct has in_front
   queue_took g xs q = record {
+    same = refl;
     law = queue_law xs (queue_pop g xs q);
     next = refl;
-    takes = not-true _ (and_parts (not (has g xs)) _ q.once).0;
-    others = λ x e. sym (ap (λ t. t || has x xs) (ne_eqb x g e));
-    falls = λ x e h. let i : in_front x (g ∷ xs) ≡ suc (in_front x xs) = cond-false (x == g) _ _ (ne_eqb x g e) in omega (arith, i);
+    takes = grind (arith, common_steps);
+    others = λ x e. grind (arith, common_steps);
+    falls = λ x e h. grind (arith, common_steps);
   }

@@ -1,38 +1,38 @@
 -- A first-come line carries a queue of arrivals. Assumes nothing.
-use Rattle.std.specs.Prelude.{◌≡◌, ℕ, ◌≤◌, true, false, not, List, [], ◌∷◌, length, is_some, Some, None, Option}
-use Rattle.std.proofs.Common.{sym, ap, arith}
+use Rattle.std.specs.Prelude.{◌≡◌, ℕ, ◌≤◌, true, false, List, [], ◌∷◌, length, Some, None, Option}
+use Rattle.std.proofs.Common.{sym, arith}
 use Rattle.std.proofs.lemmas.Bool.Decides.{nat_tests}
-use Rattle.std.proofs.lemmas.Bool.{both_ways}
 use Rattle.pending.specs.Numbers.{below}
 use Rattle.pending.specs.Orders.{oldest, rest}
-use Rattle.pending.specs.declared.client.Client.{Client}
+use Rattle.pending.specs.Ids.{Client}
 use Rattle.line.specs.Lines.{is_empty, Took, Takes, number_of}
-use Rattle.line.specs.Arrivals.{arrivals_capacity, arrivals_view}
-use Rattle.line.specs.FirstCome.{arrivals, capacity, view}
+use Rattle.line.specs.Arrivals.{arrivals_view}
+use Rattle.line.specs.FirstCome.{arrivals, view}
 use Rattle.line.specs.declared.first_come.FirstCome.{FirstCome}
 use Rattle.pending.proofs.Lists.{once}
 use Rattle.line.specs.ArrivalsLemmas.{Queue, queue_pop, queue_took}
+use Rattle.std.proofs.lemmas.Grind.{common_steps}
 
-pub queue : (l : FirstCome) → Queue l.clients l.places (arrivals l)
-queue l = record { few = l.few; some = l.some; fitting = l.fitting; once = once l.queue; placed = l.placed; known = l.known }
+pub queue : (l : FirstCome) → Queue l.size.clients l.size.places (arrivals l)
+queue l = record { few = l.size.few; some = l.size.some; fitting = l.size.fitting; once = once l.queue; placed = l.placed; known = l.known }
 
 -- what a line carries, by the names of its ghost fields
 pub facts : (n k : ℕ) (xs ys : List ℕ) → ys ≡ xs → Queue n k xs
-    → record { few : n ≤ 32; some : 1 ≤ k; fitting : k ≤ n; placed : length ys ≤ k; known : below n ys ≡ true }
-facts n k xs ys e q = record { few = q.few; some = q.some; fitting = q.fitting; placed = rw e q.placed; known = rw e q.known }
+    → record { placed : length ys ≤ k; known : below n ys ≡ true }
+facts n k xs ys e q = record { placed = rw e q.placed; known = rw e q.known }
 
 pub queue_rest : (n k : ℕ) (xs : List ℕ) → Queue n k xs → Queue n k (rest xs)
 queue_rest n k [] q = q
 queue_rest n k (x ∷ xs) q = queue_pop n k x xs q
 
-took : (n k : ℕ) (xs ys : List ℕ) (g : ℕ) → Queue n k xs → oldest xs ≡ Some g → ys ≡ rest xs → Took (arrivals_capacity n k) (arrivals_view xs) g (arrivals_view ys)
+took : (n k : ℕ) (xs ys : List ℕ) (g : ℕ) → Queue n k xs → oldest xs ≡ Some g → ys ≡ rest xs → Took (arrivals_view n k xs) g (arrivals_view n k ys)
 took n k [] ys g q e m = absurd (grind (arith, nat_tests, e))
 took n k (x ∷ xs) ys g q e m =
     let i : g ≡ x = grind (arith, e) in
     rw (i, m) (queue_took n k x xs q)
 
--- what a take of the list is to the line
-pub queue_take : (before : FirstCome) (r : Option Client) (after : FirstCome) → is_empty (view before) ≡ false
-    → number_of r ≡ oldest (arrivals before) → arrivals after ≡ rest (arrivals before) → Takes capacity view before r after
-queue_take before None after some e m = absurd (both_ways _ some (ap (λ o. not (is_some o)) (sym e)))
-queue_take before (Some g) after some e m = took _ _ _ _ g.number (queue before) (sym e) m
+-- what a take of the list is to the line, whose size stays
+pub queue_take : (before : FirstCome) (r : Option Client) (after : FirstCome) → after.size ≡ before.size
+    → is_empty (view before) ≡ false → number_of r ≡ oldest (arrivals before) → arrivals after ≡ rest (arrivals before) → Takes view before r after
+queue_take before None after s some e m = grind (arith, common_steps)
+queue_take before (Some g) after s some e m = rw s (took _ _ _ _ g.number (queue before) (sym e) m)

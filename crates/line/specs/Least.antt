@@ -3,8 +3,9 @@ use Rattle.std.specs.Prelude.{◌≡◌, ℕ, zero, suc, ◌<◌, ◌≤◌, Boo
 use Rattle.std.proofs.Common.{sym, ap, ◌∙◌, arith}
 use Rattle.std.proofs.Math.Path.{subst}
 use Rattle.std.proofs.Math.Logic.{⊎_elim}
-use Rattle.std.proofs.lemmas.Bool.{both_ways, cond-true, cond-false, cases_Bool, cases_eq, cases_lt, lt-ltb, le-ltb}
+use Rattle.std.proofs.lemmas.Bool.{both_ways, cases_eq}
 use Rattle.line.specs.Turns.{sooner, least}
+use Rattle.std.proofs.lemmas.Grind.{common_steps}
 
 module _ (waits : ℕ → Bool) (patience : ℕ → ℕ) where
   pub record Found (n g : ℕ) : Type 0 where
@@ -19,7 +20,7 @@ module _ (waits : ℕ → Bool) (patience : ℕ → ℕ) where
 
   -- one more client to look at: it does not wait
   pass : (n : ℕ) (o : Option ℕ) → waits n ≡ false → Least n o → Least (suc n) o
-  pass n None w h = λ d l. ⊎_elim (λ (e : d ≡ n). ap waits e ∙ w) (λ (e : d ≢ n). h d (omega (arith, e))) (cases_eq d n)
+  pass n None w h = grind (arith, common_steps)
   pass n (Some g) w h = record {
     inside = omega (arith, h.inside);
     here = h.here;
@@ -39,32 +40,12 @@ module _ (waits : ℕ → Bool) (patience : ℕ → ℕ) where
         (λ (e : d ≢ n). absurd (both_ways (waits d) (h d (omega (arith, e))) t))
         (cases_eq d n);
   }
-  meet n (Some g) w h = ⊎_elim
-      (λ (b : patience n < patience g). subst (Least (suc n)) (sym (cond-true _ (Some n) (Some g) (lt-ltb _ _ b))) (record {
-        inside = omega arith;
-        here = w;
-        first = λ d l t. ⊎_elim
-            (λ (e : d ≡ n). omega (arith, ap patience e))
-            (λ (e : d ≢ n). omega (arith, h.first d (omega (arith, e)) t))
-            (cases_eq d n);
-      }))
-      (λ (b : patience g ≤ patience n). subst (Least (suc n)) (sym (cond-false _ (Some n) (Some g) (le-ltb _ _ b))) (record {
-        inside = omega (arith, h.inside);
-        here = h.here;
-        first = λ d l t. ⊎_elim
-            (λ (e : d ≡ n). omega (arith, ap patience e))
-            (λ (e : d ≢ n). h.first d (omega (arith, e)) t)
-            (cases_eq d n);
-      }))
-      (cases_lt (patience n) (patience g))
+  meet n (Some g) w h = grind (arith, common_steps)
 
   pub least_law : (n : ℕ) → Least n (least waits patience n)
   unfolding least
   least_law zero = λ d l. absurd (omega arith)
-  least_law (suc n) = ⊎_elim
-      (λ (w : waits n ≡ true). subst (Least (suc n)) (sym (cond-true (waits n) _ _ w)) (meet n _ w (least_law n)))
-      (λ (w : waits n ≡ false). subst (Least (suc n)) (sym (cond-false (waits n) _ _ w)) (pass n _ w (least_law n)))
-      (cases_Bool (waits n))
+  least_law (suc n) = let r = least_law n in grind (arith, common_steps)
 
   pub least_some : (n g : ℕ) → least waits patience n ≡ Some g → Found n g
   least_some n g e = subst (Least n) e (least_law n)
@@ -75,10 +56,7 @@ module _ (waits : ℕ → Bool) (patience : ℕ → ℕ) where
   -- nobody else can be found than who waits with less patience than every other
   only : (n g : ℕ) (o : Option ℕ) → Least n o → g < n → waits g ≡ true → ((d : ℕ) → d ≢ g → waits d ≡ true → patience g < patience d) → o ≡ Some g
   only n g None h l w s = absurd (both_ways (waits g) (h g l) w)
-  only n g (Some d) h l w s = ⊎_elim
-      (λ (e : d ≡ g). ap Some e)
-      (λ (e : d ≢ g). absurd (omega (arith, s d e h.here, h.first g l w)))
-      (cases_eq d g)
+  only n g (Some d) h l w s = grind (arith, common_steps)
 
   pub least_is : (n g : ℕ) → g < n → waits g ≡ true → ((d : ℕ) → d ≢ g → waits d ≡ true → patience g < patience d) → least waits patience n ≡ Some g
   least_is n g = only n g _ (least_law n)

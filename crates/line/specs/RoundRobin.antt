@@ -1,13 +1,10 @@
 -- What a round-robin line means.
--- capacity, view: its meaning as a line.
+-- view: its meaning as a line.
 -- Made: it is for n clients, the last one counts as taken last, and nobody waits.
 use Rattle.std.specs.Prelude.{◌≡◌, ℕ, ◌-◌}
-use Rattle.line.specs.Lines.{Capacity, LineView}
-use Rattle.line.specs.Turns.{turns_capacity, turns_view}
+use Rattle.line.specs.Lines.{LineView}
+use Rattle.line.specs.Turns.{turns_view}
 use Rattle.line.specs.declared.round_robin.RoundRobin.{RoundRobin}
-
-abbrev pub capacity : RoundRobin → Capacity
-capacity l = turns_capacity l.clients
 
 abbrev pub view : RoundRobin → LineView
 view l = turns_view l.clients l.last l.word

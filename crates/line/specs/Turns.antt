@@ -4,12 +4,12 @@
 -- turns_before: how many clients have their turn before c: c - last - 1 modulo n, with n added first, since numbers do not go below 0.
 -- least: the one of least patience among the clients below n that wait; sooner is its step: c, or the one found before if it is not later.
 -- LeastPatience: nobody who waits has less patience than g.
--- turns_capacity, turns_view: what a line with such a word means.
+-- turns_view: what a line with such a word means, for n clients.
 -- joined: the word after a put, by its answer.
 -- left: the word after a take, by whom it gave.
 use Rattle.std.specs.Prelude.{◌≡◌, ℕ, zero, suc, ◌+◌, ◌-◌, ◌/◌, ◌%◌, ◌^◌, ◌≤◌, Bool, true, cond, Some, None, Ok, Err, Option, Result, ◌==◌, bit_and, bit_or, nat_lt}
 use Rattle.calls.specs.declared.refusal.Refusal.{Refusal}
-use Rattle.line.specs.Lines.{Capacity, LineView}
+use Rattle.line.specs.Lines.{LineView}
 
 unfoldable pub bit : ℕ → ℕ → Bool
 bit w c = w / 2 ^ c % 2 == 1
@@ -34,11 +34,13 @@ least waits patience (suc n) = cond (waits n) (sooner patience n (least waits pa
 abbrev pub LeastPatience : LineView → ℕ → Type 0
 LeastPatience line g = (c : ℕ) → line.waits c ≡ true → line.patience g ≤ line.patience c
 
-abbrev pub turns_capacity : ℕ → Capacity
-turns_capacity n = record { clients = n; places = n; bound = n - 1 }
-
 abbrev pub turns_view : ℕ → ℕ → ℕ → LineView
-turns_view n last w = record { waits = λ c. bit w c; patience = λ c. turns_before n last c; next = least (bit w) (turns_before n last) n }
+turns_view n last w = record {
+  size = record { clients = n; places = n; bound = n - 1 };
+  waits = λ c. bit w c;
+  patience = λ c. turns_before n last c;
+  next = least (bit w) (turns_before n last) n;
+}
 
 abbrev pub joined : Result (Unit {0}) Refusal → ℕ → ℕ → ℕ
 joined (Ok _) c w = with_bit w c

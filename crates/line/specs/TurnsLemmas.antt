@@ -1,29 +1,25 @@
 -- A word of bits and the client last taken are a line. Assumes nothing.
-use Rattle.std.specs.Prelude.{◌≡◌, ℕ, ◌+◌, ◌-◌, ◌/◌, ◌^◌, ◌<◌, ◌≤◌, true, false, not, ◌≢◌, ◌⊎◌, Some, None, Option, refl}
-use Rattle.std.proofs.Common.{sym, ap, subst, ◌∙◌, inl, inr, ⊎_elim, arith, mod-eq_of_lt}
-use Rattle.std.proofs.Math.Nat.{mod-eq-sub-mod}
+use Rattle.std.specs.Prelude.{◌≡◌, ℕ, ◌+◌, ◌-◌, ◌/◌, ◌^◌, ◌<◌, ◌≤◌, true, false, ◌≢◌, ◌⊎◌, Some, None, Option, refl}
+use Rattle.std.proofs.Common.{sym, ap, subst, ◌∙◌, inl, inr, ⊎_elim, arith}
 use Rattle.std.specs.Int.Count.{count_trailing_zeros}
 use Rattle.std.proofs.lemmas.Nat.{pow_below, shr_le, and_le_l, or_lt}
 use Rattle.std.proofs.lemmas.Bool.Decides.{nat_tests}
-use Rattle.std.proofs.lemmas.Bool.{both_ways, or_right, and_right, eq-eqb, ne_eqb, cases_Bool, cases_eq, cases_lt}
+use Rattle.std.proofs.lemmas.Bool.{both_ways, or_right, eq-eqb, ne_eqb, cases_Bool, cases_eq, cases_lt}
 use Rattle.line.specs.Lines.{LineLaw, Put, Took}
-use Rattle.line.specs.Turns.{bit, with_bit, without_bit, turns_before, least, turns_capacity, turns_view}
+use Rattle.line.specs.Turns.{bit, with_bit, without_bit, turns_before, least, turns_view}
 use Rattle.line.specs.Bits.{bit_below, bit_set, bit_clear, bit_none, bit_shift, lowest}
 use Rattle.line.specs.Waiting.{at_most}
 use Rattle.line.specs.Least.{least_some, least_none, least_is, least_nobody}
+use Rattle.std.proofs.lemmas.Grind.{common_steps}
 
 -- ---- how many have their turn before
 before_later : (n last c : ℕ) → last < c → c < n → turns_before n last c ≡ c - (last + 1)
 unfolding turns_before
-before_later n last c l h =
-    let e : ((c + n) - (last + 1)) - n ≡ c - (last + 1) = omega arith in
-    let a : n ≤ (c + n) - (last + 1) = omega arith in
-    let b : ((c + n) - (last + 1)) - n < n = omega arith in
-    mod-eq-sub-mod a ∙ mod-eq_of_lt b ∙ e
+before_later n last c l h = grind (arith, common_steps)
 
 before_earlier : (n last c : ℕ) → c ≤ last → last < n → turns_before n last c ≡ (c + n) - (last + 1)
 unfolding turns_before
-before_earlier n last c l h = let b : (c + n) - (last + 1) < n = omega arith in mod-eq_of_lt b
+before_earlier n last c l h = grind (arith, common_steps)
 
 before_cases : (n last c : ℕ) → last < n → c < n → ((last < c) × (turns_before n last c ≡ c - (last + 1))) ⊎ ((c ≤ last) × (turns_before n last c ≡ (c + n) - (last + 1)))
 before_cases n last c l h = ⊎_elim
@@ -72,7 +68,7 @@ module _ (n last w : ℕ) (o : Round n last w) where
       (λ t. t)
       (cases_Bool (bit w c))
 
-  pub round_law : LineLaw (turns_capacity n) (turns_view n last w)
+  pub round_law : LineLaw (turns_view n last w)
   round_law = record {
     narrow = omega (arith, o.few);
     client = λ c h. bit_below w n c o.known h;
@@ -99,7 +95,7 @@ module _ (n last w : ℕ) (o : Round n last w) where
   pub next_later : (behind ≢ 0) → next n last w ≡ Some (last + 1 + count_trailing_zeros 32 behind)
   next_later ne =
       let t = count_trailing_zeros 32 behind in
-      let p = lowest 32 behind (omega (arith, ne)) (omega (arith, fits, shr_le (w / 2 ^ last) 1, shr_le w last)) in
+      let p = lowest behind (omega (arith, ne)) (omega (arith, fits, shr_le (w / 2 ^ last) 1, shr_le w last)) in
       let g = last + 1 + t in
       let here : bit w g ≡ true = sym (behind_bit t) ∙ p.set in
       let inside : g < n = bit_below w n g o.known here in
@@ -119,7 +115,7 @@ module _ (n last w : ℕ) (o : Round n last w) where
   pub next_first : behind ≡ 0 → (w ≢ 0) → next n last w ≡ Some (count_trailing_zeros 32 w)
   next_first z ne =
       let g = count_trailing_zeros 32 w in
-      let p = lowest 32 w (omega (arith, ne)) fits in
+      let p = lowest w (omega (arith, ne)) fits in
       let inside : g < n = bit_below w n g o.known p.set in
       let early : (d : ℕ) → bit w d ≡ true → d ≤ last = λ d h. ⊎_elim
       (λ (l : last < d).
@@ -146,23 +142,25 @@ module _ (n last w : ℕ) (o : Round n last w) where
   round_clear g l = record { few = o.few; inside = l; known = omega (arith, o.known, and_le_l w (4294967295 - 2 ^ g)) }
 
 module _ (n last w : ℕ) (o : Round n last w) where
-  pub round_put : (c : ℕ) → c < n → Put (turns_capacity n) (turns_view n last w) c (turns_view n last (with_bit w c))
+  pub round_put : (c : ℕ) → c < n → Put (turns_view n last w) c (turns_view n last (with_bit w c))
   round_put c l = record {
+    same = refl;
     law = round_law n last (with_bit w c) (round_set n last w o c l);
     puts = bit_set w c c ∙ or_right (bit w c) _ (eq-eqb c c refl);
     others = λ x e. bit_set w c x ∙ (grind (arith, nat_tests, ne_eqb x c e));
     kept = λ x e h. omega arith;
   }
 
-  pub round_took : (g : ℕ) → next n last w ≡ Some g → Took (turns_capacity n) (turns_view n last w) g (turns_view n g (without_bit w g))
+  pub round_took : (g : ℕ) → next n last w ≡ Some g → Took (turns_view n last w) g (turns_view n g (without_bit w g))
   round_took g e =
       let f = least_some (bit w) (turns_before n last) n g e in
       let clear = λ (x : ℕ). bit_clear w n g x o.few o.known f.inside in
       record {
+        same = refl;
         law = round_law n g (without_bit w g) (round_clear n last w o g f.inside);
         next = e;
-        takes = clear g ∙ and_right (bit w g) _ (ap not (eq-eqb g g refl));
-        others = λ x ne. clear x ∙ (grind (arith, nat_tests, ne_eqb x g ne));
+        takes = grind (arith, common_steps);
+        others = λ x ne. grind (arith, common_steps);
         falls = λ x ne h.
             let b = bit_below w n x o.known h in
             let apart : turns_before n last g ≢ turns_before n last x = λ q. ne (sym (before_apart n last g x o.inside f.inside b q)) in

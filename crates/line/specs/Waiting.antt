@@ -4,18 +4,17 @@ use Rattle.std.proofs.Common.{ap, ◌∙◌, ⊎_elim, arith}
 use Rattle.std.proofs.lemmas.Bool.Decides.{nat_tests}
 use Rattle.std.proofs.lemmas.Bool.{cond-true, cond-false, cases_eq, eq-eqb, ne_eqb, or_right}
 use Rattle.line.specs.Lines.{waiting}
+use Rattle.std.proofs.lemmas.Grind.{common_steps}
 
 pub nobody_waits : (p : ℕ → Bool) (n : ℕ) → ((c : ℕ) → p c ≡ false) → waiting p n ≡ 0
 unfolding waiting
 nobody_waits p zero h = refl
-nobody_waits p (suc n) h = let i : cond {A = ℕ} (p n) 1 0 ≡ 0 = cond-false (p n) 1 0 (h n) in omega (arith, i, nobody_waits p n h)
+nobody_waits p (suc n) h = let r = nobody_waits p n in grind (arith, common_steps)
 
 pub same_wait : (p q : ℕ → Bool) (n : ℕ) → ((c : ℕ) → c < n → p c ≡ q c) → waiting p n ≡ waiting q n
 unfolding waiting
 same_wait p q zero h = refl
-same_wait p q (suc n) h =
-    let i : cond {A = ℕ} (p n) 1 0 ≡ cond (q n) 1 0 = ap (λ t. cond {A = ℕ} t 1 0) (h n (omega arith)) in
-    omega (arith, i, same_wait p q n (λ c l. h c (omega arith)))
+same_wait p q (suc n) h = let r = same_wait p q n in grind (arith, common_steps)
 
 -- x waits too, and nobody else starts or stops
 pub one_more : (p q : ℕ → Bool) (x n : ℕ) → x < n → p x ≡ false → q x ≡ true → ((c : ℕ) → c ≢ x → q c ≡ p c) → waiting q n ≡ suc (waiting p n)

@@ -4,3 +4,4 @@
 pub mod first_come;
 pub mod line;
 pub mod round_robin;
+mod size;

@@ -3,7 +3,7 @@
 --   before has less patience.
 -- Swapped: somebody is taken, and all others are nearer to their turn.
 use Rattle.std.specs.Prelude.{◌≡◌, ℕ, ◌<◌, true, false, ◌||◌, ◌≢◌, IsSomeAnd, Option, ◌==◌}
-use Rattle.pending.specs.declared.client.Client.{Client}
+use Rattle.pending.specs.Ids.{Client}
 use Rattle.line.specs.Lines.{LineView}
 
 pub record Nearer (before : LineView) (client : ℕ) (after : LineView) (g : ℕ) : Type 0 where

@@ -1,6 +1,6 @@
 // Code over any line at all.
-ghost use Rattle.std.specs.Prelude.{◌≡◌};
-ghost use Rattle.std.specs.Result as results;
+ghost use Rattle.std.specs.Prelude.{◌≡◌, MatchResult};
+ghost use Rattle.std.specs.Result.{result_err};
 ghost use Rattle.line.specs.Lines.{put_answer};
 ghost use Rattle.line_tests.specs.Swaps.{Swapped};
 
@@ -10,9 +10,9 @@ use pending::client::Client;
 
 // Puts a client in line and takes the next one out of it. All others come nearer to their turn.
 pub fn swap<L: Line>(line: &mut L, client: u8) -> Result<Option<Client>, Refusal>
-    ensures same { L.capacity line.new ≡ L.capacity line.old }
-    ensures answer { results.result_err result ≡ results.result_err (put_answer (L.capacity line.old) (L.view line.old) client) }
-    ensures moves { results.MatchResult result (Swapped (L.view line.old) client (L.view line.new)) (λ _. line.new ≡ line.old) }
+    ensures same { (L.view line.new).size ≡ (L.view line.old).size }
+    ensures answer { result_err result ≡ result_err (put_answer (L.view line.old) client) }
+    ensures moves { MatchResult result (Swapped (L.view line.old) client (L.view line.new)) (λ _. line.new ≡ line.old) }
 {
     line.put(client)?;
     Ok(line.take())

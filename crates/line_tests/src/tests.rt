@@ -5,68 +5,71 @@ use calls::refusal::Refusal;
 use line::first_come::FirstCome;
 use line::line::Line;
 use line::round_robin::RoundRobin;
-use pending::client::Client;
 use pending::key::{Key, NONE};
 use pending::list::PendingList;
 use pending::task::Task;
 use std::process::Abort;
 use std::test::Fail;
 
-// The number of what was taken, or 255.
-fn number<K: Key + Drop>(taken: Option<K>) -> u8 {
-    match taken {
-        Some(key) => key.number(),
-        None => NONE,
-    }
-}
-
-// The number of the refusal, or 0.
-fn refused(answer: Result<(), Refusal>) -> u8 {
-    match answer {
-        Ok(()) => 0,
-        Err(refusal) => refusal.number(),
-    }
-}
-
-fn add(list: &mut PendingList<Task>, task: u8) -> u8 {
-    match Task::from_number(task) {
-        Some(task) => refused(list.add(&task)),
-        None => NONE,
-    }
+// Adds the task of that number, if there is one.
+fn add(list: &mut PendingList<Task>, task: u8) -> Option<Result<(), u8>> {
+    let task = Task::from_number(task)?;
+    Some(list.add(&task).map_err(Refusal::number))
 }
 
 // Every key of the list: added in falling order, refused once more, and taken in that order.
 #[test]
 fn a_list_of_all_keys(rt: HostRuntime) {
     let mut list: PendingList<Task> = PendingList::new();
-    for i in 0..255 {
-        assert_eq!(rt; add(&mut list, 254 - i), 0);
+    for task in (0..255).rev() {
+        assert_eq!(rt; add(&mut list, task), Some(Ok(())));
     }
     assert_eq!(rt; list.len(), 255);
-    assert_eq!(rt; add(&mut list, 254), 14);
-    assert_eq!(rt; add(&mut list, 0), 14);
-    assert_eq!(rt; add(&mut list, NONE), NONE);
-    for i in 0..255 {
-        assert_eq!(rt; number(list.take()), 254 - i);
+    assert_eq!(rt; add(&mut list, 254), Some(Err(14)));
+    assert_eq!(rt; add(&mut list, 0), Some(Err(14)));
+    assert_eq!(rt; add(&mut list, NONE), None);
+    for task in (0..255).rev() {
+        assert_eq!(rt; list.take().map(|task| task.number()), Some(task));
     }
     assert!(rt; list.is_empty());
-    assert_eq!(rt; number(list.take()), NONE);
+    assert!(rt; list.take().is_none());
+}
+
+fn put<L: Line>(line: &mut L, client: u8) -> Result<(), u8> {
+    line.put(client).map_err(Refusal::number)
+}
+
+// The number of whom the line gives.
+fn take<L: Line>(line: &mut L) -> Option<u8> {
+    line.take().map(|client| client.number())
 }
 
 // The refusals of a put, in their order, on a line with two places.
 #[test]
 fn first_come_refuses(rt: HostRuntime) {
     let mut line = FirstCome::new();
-    assert_eq!(rt; refused(line.make(0, 1)), 16);
-    assert_eq!(rt; refused(line.make(33, 1)), 16);
-    assert_eq!(rt; refused(line.make(3, 4)), 17);
-    assert_eq!(rt; refused(line.make(3, 0)), 17);
-    assert_eq!(rt; refused(line.make(3, 2)), 0);
-    for (client, answer) in &[(2, 0), (3, 1), (255, 1), (2, 2), (0, 0), (2, 2), (1, 3)] {
-        assert_eq!(rt; refused(line.put(*client)), *answer);
+    for (clients, places, answer) in [
+        (0, 1, Err(16)),
+        (33, 1, Err(16)),
+        (3, 4, Err(17)),
+        (3, 0, Err(17)),
+        (3, 2, Ok(())),
+    ] {
+        assert_eq!(rt; line.make(clients, places).map_err(Refusal::number), answer);
     }
-    for client in &[2, 0, NONE] {
-        assert_eq!(rt; number(line.take()), *client);
+    for (client, answer) in [
+        (2, Ok(())),
+        (3, Err(1)),
+        (255, Err(1)),
+        (2, Err(2)),
+        (0, Ok(())),
+        (2, Err(2)),
+        (1, Err(3)),
+    ] {
+        assert_eq!(rt; put(&mut line, client), answer);
+    }
+    for client in [Some(2), Some(0), None] {
+        assert_eq!(rt; take(&mut line), client);
     }
 }
 
@@ -74,15 +77,15 @@ fn first_come_refuses(rt: HostRuntime) {
 #[test]
 fn round_robin_takes_turns(rt: HostRuntime) -> Result<(), Fail> {
     let mut line = RoundRobin::new(4, 4)?;
-    assert_eq!(rt; refused(line.put(2)), 0);
-    assert_eq!(rt; refused(line.put(0)), 0);
-    for client in &[0, 2, NONE] {
-        assert_eq!(rt; number(line.take()), *client);
+    line.put(2)?;
+    line.put(0)?;
+    for client in [Some(0), Some(2), None] {
+        assert_eq!(rt; take(&mut line), client);
     }
-    assert_eq!(rt; refused(line.put(1)), 0);
-    assert_eq!(rt; refused(line.put(3)), 0);
-    for client in &[3, 1, NONE] {
-        assert_eq!(rt; number(line.take()), *client);
+    line.put(1)?;
+    line.put(3)?;
+    for client in [Some(3), Some(1), None] {
+        assert_eq!(rt; take(&mut line), client);
     }
     Ok(())
 }
@@ -93,23 +96,26 @@ fn round_robin_of_all_clients(rt: HostRuntime) -> Result<(), Fail> {
     let mut line = RoundRobin::new(32, 32)?;
     for client in 0..32 {
         assert!(rt; !line.is_full());
-        assert_eq!(rt; refused(line.put(client)), 0);
+        assert_eq!(rt; put(&mut line, client), Ok(()));
     }
     assert!(rt; line.is_full());
-    for client in &[(32, 1), (255, 1), (31, 2)] {
-        assert_eq!(rt; refused(line.put(client.0)), client.1);
+    for (client, refusal) in [(32, 1), (255, 1), (31, 2)] {
+        assert_eq!(rt; put(&mut line, client), Err(refusal));
     }
     for client in 0..32 {
-        assert_eq!(rt; number(line.take()), client);
+        assert_eq!(rt; take(&mut line), Some(client));
     }
     assert!(rt; line.is_empty());
     Ok(())
 }
 
-// Whom the line gives for each client that comes, or 255.
+// Whom the line gives for each client that comes.
 fn swaps<L: Line>(rt: &impl Abort, line: &mut L, taken: &[(u8, u8)]) -> Result<(), Fail> {
     for (client, next) in taken {
-        assert_eq!(rt; number(swap(line, *client)?), *next);
+        assert_eq!(rt;
+            swap(line, *client)?.map(|client| client.number()),
+            Some(*next)
+        );
     }
     Ok(())
 }

@@ -1,11 +1,12 @@
 -- Laws of numbers that are linked by a table. Assumes nothing.
 use Rattle.std.proofs.Common.{◌≡◌, ℕ, zero, suc, ◌<◌, ◌≤◌, true, false, not, eqb, ltb, ◌≢◌, ◌⊎◌, List, [], ◌∷◌, ◌++◌, length, get_or, set, sym, refl, ap, ◌∙◌, subst, inl, inr, ⊎_elim, arith}
-use Rattle.std.proofs.lemmas.List.{get_or-set_same, get_or-set_other}
+use Rattle.std.proofs.lemmas.List.{get_or-set_other}
 use Rattle.std.proofs.lemmas.Bool.Decides.{nat_tests}
-use Rattle.std.proofs.lemmas.Bool.{and_parts, and_from, or_parts, or_cases, not-true, both_ways, eqb-true, eqb-false, eq-eqb, ltb-true, le-ltb, lt-ltb, cond-true, cond-false}
+use Rattle.std.proofs.lemmas.Bool.{and_parts, and_from, or_parts, or_cases, not-true, both_ways, eqb-true, eqb-false, lt-ltb, cond-true}
 use Rattle.pending.specs.Numbers.{has, distinct, below, ends}
 use Rattle.pending.specs.Chains.{walk, linked}
 use Rattle.pending.proofs.Numbers.{has_ends}
+use Rattle.std.proofs.lemmas.Grind.{common_steps}
 
 -- a link taken apart: the number met is the first one, it is below 255, and the rest is linked from its next number on
 pub record Link (next : List ℕ) (at x : ℕ) (xs : List ℕ) : Type 0 where
@@ -15,20 +16,17 @@ pub record Link (next : List ℕ) (at x : ℕ) (xs : List ℕ) : Type 0 where
 
 pub link : (next : List ℕ) (at x : ℕ) (xs : List ℕ) → linked next at (x ∷ xs) ≡ true → Link next at x xs
 unfolding linked
-link next at x xs l =
-    let p = and_parts (eqb x at) _ l in
-    let q = and_parts (ltb x 255) _ p.1 in
-    record { met = eqb-true x at p.0; small = ltb-true x 255 q.0; more = q.1 }
+link next at x xs l = grind (arith, common_steps)
 
 pub linked_from : (next : List ℕ) (at x : ℕ) (xs : List ℕ) → x ≡ at → x < 255 → linked next (get_or next x 0) xs ≡ true → linked next at (x ∷ xs) ≡ true
 unfolding linked
-linked_from next at x xs e b l = and_from (eqb x at) _ (eq-eqb x at e) (and_from (ltb x 255) _ (lt-ltb x 255 b) l)
+linked_from next at x xs e b l = grind (arith, common_steps)
 
 -- what is linked to its end is what is met, if it is no more than may be met
 pub walk_linked : (next xs : List ℕ) (more at : ℕ) → length xs ≤ more → linked next at xs ≡ true → walk more at next ≡ xs
 unfolding walk linked
 walk_linked next [] zero at h l = refl
-walk_linked next [] (suc more) at h l = cond-false (ltb at 255) _ _ (le-ltb at 255 (omega (arith, eqb-true at 255 l)))
+walk_linked next [] (suc more) at h l = grind (arith, common_steps)
 walk_linked next (x ∷ xs) zero at h l = absurd (omega arith)
 walk_linked next (x ∷ xs) (suc more) at h l =
     let p = link next at x xs l in
@@ -70,14 +68,7 @@ pub linked_push : (next : List ℕ) (k at x : ℕ) (xs : List ℕ) → length ne
     → distinct (x ∷ xs) ≡ true → has k (x ∷ xs) ≡ false → linked next at (x ∷ xs) ≡ true
     → linked (set next (ends x xs) k) at (x ∷ xs ++ k ∷ []) ≡ true
 unfolding has ends distinct linked
-linked_push next k at x [] n b e d h l =
-    let p = link next at x [] l in
-    let u = or_parts (eqb k x) _ h in
-    let ne : k ≢ x = eqb-false k x u.0 in
-    let lt : x < length next = omega (arith, p.small) in
-    let s : get_or (set next x k) x 0 ≡ k = rw get_or-set_same in
-    let o : get_or (set next x k) k 0 ≡ 255 = rw get_or-set_other e in
-    linked_from (set next x k) at x (k ∷ []) p.met p.small (linked_from (set next x k) _ k [] (sym s) b (eq-eqb _ _ o))
+linked_push next k at x [] n b e d h l = grind (arith, common_steps)
 linked_push next k at x (y ∷ ys) n b e d h l =
     let p = link next at x (y ∷ ys) l in
     let u = or_parts (eqb k x) _ h in

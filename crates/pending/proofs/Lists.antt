@@ -6,4 +6,4 @@ use Rattle.pending.specs.declared.list.PendingList.{PendingList}
 
 -- no key is pending twice
 pub once : {K : Type 0} (p : PendingList K) → distinct (order p) ≡ true
-once p = p.links.distinct
+once p = p.distinct

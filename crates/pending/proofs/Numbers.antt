@@ -3,6 +3,7 @@ use Rattle.std.proofs.Common.{◌≡◌, ℕ, zero, suc, ◌+◌, ◌<◌, ◌�
 use Rattle.std.proofs.lemmas.Bool.Decides.{nat_tests}
 use Rattle.std.proofs.lemmas.Bool.{and_parts, and_from, or_parts, or_right, not-true, eqb-true, ltb-true, lt-ltb, cond-true, cond-false, cases_Bool}
 use Rattle.pending.specs.Numbers.{has, distinct, below, ends}
+use Rattle.std.proofs.lemmas.Grind.{common_steps}
 
 -- ---- one more at the end
 pub has_push : (k y : ℕ) (xs : List ℕ) → has k (xs ++ y ∷ []) ≡ (has k xs || eqb k y)
@@ -23,7 +24,7 @@ distinct_push k (x ∷ xs) d h =
 pub below_push : (n k : ℕ) (xs : List ℕ) → below n xs ≡ true → k < n → below n (xs ++ k ∷ []) ≡ true
 unfolding below
 below_push n k [] b l = and_from (ltb k n) _ (lt-ltb k n l) refl
-below_push n k (x ∷ xs) b l = let p = and_parts (ltb x n) _ b in and_from (ltb x n) _ p.0 (below_push n k xs p.1 l)
+below_push n k (x ∷ xs) b l = let r = below_push n k xs in grind (arith, common_steps)
 
 pub ends_push : (d k : ℕ) (xs : List ℕ) → ends d (xs ++ k ∷ []) ≡ k
 unfolding ends
@@ -54,9 +55,7 @@ has_without j k (x ∷ xs) = let r = has_without j k xs in grind (arith, nat_tes
 without_none : (k : ℕ) (xs : List ℕ) → has k xs ≡ false → without k xs ≡ xs
 unfolding has without
 without_none k [] h = refl
-without_none k (x ∷ xs) h =
-    let p = or_parts (eqb k x) _ h in
-    cond-false (eqb k x) _ _ p.0 ∙ ap (λ ys. x ∷ ys) (without_none k xs p.1)
+without_none k (x ∷ xs) h = let r = without_none k xs in grind (arith, common_steps)
 
 distinct_without : (k : ℕ) (xs : List ℕ) → distinct xs ≡ true → distinct (without k xs) ≡ true
 unfolding distinct without
@@ -85,13 +84,10 @@ length_without k (x ∷ xs) d =
 below_without : (n : ℕ) (xs : List ℕ) → below (suc n) xs ≡ true → below n (without n xs) ≡ true
 unfolding below without
 below_without n [] b = refl
-below_without n (x ∷ xs) b =
-    let p = and_parts (ltb x (suc n)) _ b in
-    let r = below_without n xs p.1 in
-    grind (arith, nat_tests)
+below_without n (x ∷ xs) b = let r = below_without n xs in grind (arith, common_steps)
 
 pub length_below : (n : ℕ) (xs : List ℕ) → distinct xs ≡ true → below n xs ≡ true → length xs ≤ n
 unfolding below
 length_below zero [] d b = omega arith
-length_below zero (x ∷ xs) d b = absurd (omega (arith, ltb-true x 0 (and_parts (ltb x 0) _ b).0))
+length_below zero (x ∷ xs) d b = grind (arith, common_steps)
 length_below (suc n) xs d b = omega (arith, length_without n xs d, length_below n (without n xs) (distinct_without n xs d) (below_without n xs b))

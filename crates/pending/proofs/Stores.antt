@@ -1,13 +1,15 @@
 -- A store stands for a list of numbers: what each change of the store does to the list. Assumes nothing.
-use Rattle.std.proofs.Common.{◌≡◌, ℕ, ◌+◌, ◌-◌, ◌<◌, ◌≤◌, true, false, cond, not, eqb, ◌≢◌, List, [], ◌∷◌, ◌++◌, length, get_or, set, sym, refl, ap, ◌∙◌, subst, ⊎_elim, arith}
-use Rattle.std.proofs.lemmas.List.{get_or-set_same, get_or-set_other, length_push}
-use Rattle.std.proofs.lemmas.Bool.{and_parts, or_parts, or_from, not-true, both_ways, eqb-true, eq-eqb, ne_eqb, cond-true, cond-false, cases_eq, cases_Bool}
+use Rattle.std.proofs.Common.{◌≡◌, ℕ, ◌+◌, ◌-◌, ◌<◌, ◌≤◌, true, false, cond, not, eqb, ◌≢◌, List, [], ◌∷◌, ◌++◌, length, get_or, set, replicate, sym, refl, ap, ◌∙◌, subst, ⊎_elim, arith}
+use Rattle.std.proofs.lemmas.List.{get_or-replicate, get_or-set_same, get_or-set_other, length_push}
+use Rattle.std.proofs.lemmas.Bool.{and_parts, or_parts, or_from, not-true, both_ways, eqb-true, eq-eqb, ne_eqb, cond-true, cases_eq, cases_Bool}
 use Rattle.pending.specs.Numbers.{has, distinct, ends}
 use Rattle.pending.specs.Chains.{chain, linked, Linked, Distinct, Ended, Clear, Counted}
-use Rattle.pending.specs.Orders.{numbers, is_empty}
-use Rattle.pending.specs.declared.links.Links.{Links}
+use Rattle.pending.specs.Orders.{is_empty}
+use Rattle.pending.specs.Lists.{order}
+use Rattle.pending.specs.declared.list.PendingList.{PendingList}
 use Rattle.pending.proofs.Numbers.{has_push, distinct_push, below_push, ends_push, has_ends, ends_below, length_below}
-use Rattle.pending.proofs.Chains.{link, linked_from, walk_linked, linked_below, linked_next, linked_frame, linked_push}
+use Rattle.pending.proofs.Chains.{link, walk_linked, linked_below, linked_next, linked_frame, linked_push}
+use Rattle.std.proofs.lemmas.Grind.{common_steps}
 
 pub record Stands (head tail : ℕ) (next : List ℕ) (len : ℕ) (xs : List ℕ) : Type 0 where
   pub links : linked next head xs ≡ true
@@ -33,15 +35,15 @@ facts {head} {tail} {next} {len} s =
     let t : Stands head tail next len (chain head next) = subst (λ ys. Stands head tail next len ys) (sym (chain_is s)) s in
     record { linked = t.links; distinct = t.once; ended = t.lasts; clear = t.clears; counted = t.counts }
 
-pub stands : (l : Links) → Stands l.head l.tail l.next l.len (numbers l)
-stands l = record { links = l.linked; once = l.distinct; lasts = l.ended; clears = l.clear; counts = l.counted }
+pub stands : {K : Type 0} (p : PendingList K) → Stands p.head p.tail p.next p.len (order p)
+stands p = record { links = p.linked; once = p.distinct; lasts = p.ended; clears = p.clear; counts = p.counted }
 
 -- ---- what the store tells of the list
 module _ (head tail : ℕ) (next : List ℕ) (len : ℕ) where
   pub head_tells : (xs : List ℕ) → Stands head tail next len xs → eqb head 255 ≡ is_empty xs
   unfolding linked
   head_tells [] s = s.links
-  head_tells (x ∷ xs) s = let p = link next head x xs s.links in ne_eqb head 255 (λ e. omega (arith, p.met, p.small))
+  head_tells (x ∷ xs) s = grind (arith, common_steps)
 
   pub head_none : (xs : List ℕ) → Stands head tail next len xs → head ≡ 255 → xs ≡ []
   head_none [] s e = refl
@@ -50,7 +52,7 @@ module _ (head tail : ℕ) (next : List ℕ) (len : ℕ) where
   pub head_first : (xs : List ℕ) → Stands head tail next len xs → (head ≡ 255 → ⊥) → (ys : List ℕ) × (xs ≡ head ∷ ys)
   unfolding linked
   head_first [] s ne = absurd (ne (eqb-true head 255 s.links))
-  head_first (x ∷ xs) s ne = (xs, ap (λ y. y ∷ xs) (link next head x xs s.links).met)
+  head_first (x ∷ xs) s ne = grind (arith, common_steps)
 
   pub tail_none : (xs : List ℕ) → Stands head tail next len xs → tail ≡ 255 → xs ≡ []
   unfolding ends
@@ -66,16 +68,31 @@ module _ (head tail : ℕ) (next : List ℕ) (len : ℕ) where
       (λ h. ne_eqb tail k (λ f. both_ways (has k (x ∷ xs)) h (subst (λ i. has i (x ∷ xs) ≡ true) (s.lasts ∙ f) (has_ends x xs))) ∙ sym h)
       (cases_Bool (has k (x ∷ xs)))
 
+pub list_is_empty : {K : Type 0} (p : PendingList K) → eqb p.head 255 ≡ is_empty (order p)
+list_is_empty p = head_tells _ _ _ _ _ (stands p)
+
+pub list_has : {K : Type 0} (p : PendingList K) (k : ℕ) → k < 255 → get_or p.next k 0 ≡ 255 → eqb p.tail k ≡ has k (order p)
+list_has p k b e = tail_tells _ _ _ _ k _ (stands p) b e
+
 -- ---- a store of none
 pub stands_none : (next : List ℕ) → ((k : ℕ) → k < 255 → get_or next k 0 ≡ 255) → Stands 255 255 next 0 []
 unfolding linked distinct ends
 stands_none next h = record { links = refl; once = refl; lasts = refl; clears = λ k b _. h k b; counts = refl }
 
+fresh : Stands 255 255 (replicate 255 255) 0 []
+fresh = stands_none _ (λ k b. get_or-replicate 255 k 255 0 b)
+
+pub fresh_facts : Facts 255 255 (replicate 255 255) 0
+fresh_facts = facts fresh
+
+pub fresh_chain : chain 255 (replicate 255 255) ≡ []
+fresh_chain = chain_is fresh
+
 -- ---- one more
 stands_one : (k : ℕ) (next : List ℕ) → k < 255 → ((j : ℕ) → j < 255 → get_or next j 0 ≡ 255) → Stands k k next 1 (k ∷ [])
 unfolding has linked distinct ends
 stands_one k next b c = record {
-  links = linked_from next k k [] refl b (eq-eqb _ _ (c k b));
+  links = grind (arith, common_steps);
   once = refl;
   lasts = refl;
   clears = λ j h _. c j h;
@@ -104,7 +121,7 @@ module _ (head tail k : ℕ) (next : List ℕ) (len : ℕ) where
         let p = or_parts (has j (x ∷ xs)) _ (sym (has_push j k (x ∷ xs)) ∙ m) in
         let ne : j ≢ tail = λ e. both_ways (has j (x ∷ xs)) p.0 (subst (λ i. has i (x ∷ xs) ≡ true) (s.lasts ∙ sym e) (has_ends x xs)) in
         rw get_or-set_other (s.clears j c p.0);
-    counts = omega (arith, s.counts, length_push (x ∷ xs) k);
+    counts = grind (arith, common_steps);
   }
 
 -- there is room for one more
@@ -116,10 +133,7 @@ room {head} {tail} {next} {len} k xs b h s =
 pop_ends : (x : ℕ) (xs next : List ℕ) (tail : ℕ) → linked next (get_or next x 0) xs ≡ true → ends x xs ≡ tail → ends 255 xs ≡ cond (eqb (get_or next x 0) 255) 255 tail
 unfolding linked ends
 pop_ends x [] next tail l e = sym (cond-true _ _ _ l)
-pop_ends x (y ∷ ys) next tail l e =
-    let p = link next (get_or next x 0) y ys l in
-    let b : get_or next x 0 ≡ 255 → ⊥ = λ f. omega (arith, p.met, p.small) in
-    e ∙ sym (cond-false (eqb (get_or next x 0) 255) 255 tail (ne_eqb _ _ b))
+pop_ends x (y ∷ ys) next tail l e = grind (arith, common_steps)
 
 stands_pop : (head tail x : ℕ) (next : List ℕ) (len : ℕ) (xs : List ℕ) → length next ≡ 255 → Stands head tail next len (x ∷ xs)
     → Stands (get_or next x 0) (cond (eqb (get_or next x 0) 255) 255 tail) (set next x 255) (len - 1) xs

@@ -1,4 +1,5 @@
 pub mod Keys
+pub mod Ids
 pub mod Numbers
 pub mod Chains
 pub mod Orders

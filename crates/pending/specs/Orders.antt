@@ -1,5 +1,4 @@
--- What linked numbers hold, and what the calls of a once-pending list do to that.
--- numbers: the linked numbers, the oldest first.
+-- What the calls of a once-pending list do to its order: the numbers of its keys, the oldest first.
 -- is_empty: there is none.
 -- add_answer, added: what adding k answers, and the order after it. A pending key is refused.
 -- oldest, rest: what taking yields, and the order after it.
@@ -7,11 +6,6 @@ use Rattle.std.specs.Prelude.{ℕ, Bool, cond, not, List, [], ◌∷◌, ◌++�
 use Rattle.calls.specs.declared.refusal.Refusal.{Refusal}
 use Rattle.calls.specs.declared.refusal.Refusal.TheVariants.{AlreadyPending}
 use Rattle.pending.specs.Numbers.{has}
-use Rattle.pending.specs.Chains.{chain}
-use Rattle.pending.specs.declared.links.Links.{Links}
-
-abbrev pub numbers : Links → List ℕ
-numbers l = chain l.head l.next
 
 abbrev pub add_answer : ℕ → List ℕ → Result (Unit {0}) Refusal
 add_answer k xs = cond (has k xs) (Err AlreadyPending) (Ok tt)

@@ -1,30 +1,7 @@
 // The clients of a bus.
-ghost use Rattle.std.specs.Prelude.{◌<◌};
-ghost use Rattle.pending.specs.KeysLemmas.{below_path};
+use crate::id::Id;
 
-use crate::key::{Key, NONE};
+// The kind of a client's number.
+pub enum ClientKind {}
 
-#[derive(Clone, Copy, Debug, PartialEq, Eq)]
-pub struct Client {
-    number: u8,
-    ghost below: { number < 255 },
-}
-
-impl Key for Client {
-    ghost code = { λ k. k.number };
-
-    ghost below = { λ k. k.below };
-
-    ghost same = { λ j k e i. record { number = e i; below = below_path e j.below k.below i } };
-
-    fn number(&self) -> u8 {
-        self.number
-    }
-
-    fn from_number(number: u8) -> Option<Client> {
-        if number == NONE {
-            return None;
-        }
-        Some(Client { number })
-    }
-}
+pub type Client = Id<ClientKind>;

@@ -2,7 +2,7 @@
 #![tactic(auto)]
 
 pub mod client;
+pub mod id;
 pub mod key;
-mod links;
 pub mod list;
 pub mod task;

@@ -1,5 +1,5 @@
 use Rattle.std.proofs.Common.{◌/◌, ◌^◌, eqb, ap}
-use lib.Bits.{and_mask}
+use Rattle.std.proofs.lemmas.Nat.{and_mask}
 use Rattle.line.specs.Turns.{bit}
 use Rattle.line.proofs.round_robin.RoundRobin.has_bit.Goals as goal
 

@@ -1,29 +1,24 @@
 use Rattle.std.proofs.Common.{◌≡◌, ◌*◌, ◌%◌, ◌^◌, refl, ap, arith}
-use lib.Bits.{bit_or}
-use Rattle.std.proofs.lemmas.Bool.Decides.{nat_tests}
-use Rattle.line.specs.Turns.{bit, with_bit}
+use Rattle.std.specs.Prelude.{bit_or}
+use Rattle.line.specs.Turns.{with_bit}
 use Rattle.line.specs.TurnsLemmas.{round_set, round_put}
-use Rattle.line.specs.Waiting.{one_free}
 use Rattle.line.specs.RoundRobinLemmas.{round, facts, shifted}
 use Rattle.line.proofs.round_robin.RoundRobin.join.Goals as goal
 use Rattle.line.proofs.round_robin.RoundRobin.join.Goals.{Start}
 
 -- the word with the client's bit set
 grown : (c : Start) → bit_or c.args.self.now.word (1 * 2 ^ c.args.client % 4294967296) ≡ with_bit c.args.self.now.word c.args.client
-grown c = let l = c.args.self.now in ap (bit_or l.word) (shifted c.args.client (omega (arith, l.few, c.requires.0)))
+grown c = let l = c.args.self.now in ap (bit_or l.word) (shifted c.args.client (omega (arith, l.few, c.requires)))
 
 pub invariant_of-self : goal.invariant_of-self
-invariant_of-self c = facts _ _ _ _ (grown c) (round_set _ _ _ (round c.args.self.now) c.args.client c.requires.0)
+invariant_of-self c = facts _ _ _ _ (grown c) (round_set _ _ _ (round c.args.self.now) c.args.client c.requires)
 
 pub returns : goal.returns
 returns c =
     let l = c.args.self.now in
     let e = grown (goal.at.returns c).Start in
-    let fewer = one_free (bit l.word) c.args.client l.clients c.requires.0 c.requires.1 in
     record {
-      free = grind (arith, nat_tests);
-      same = refl;
-      moves = rw e (round_put _ _ _ (round l) c.args.client c.requires.0);
+      moves = rw e (round_put _ _ _ (round l) c.args.client c.requires);
       word = e;
       last = refl;
     }

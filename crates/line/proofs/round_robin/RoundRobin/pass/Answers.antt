@@ -1,5 +1,5 @@
 use Rattle.std.proofs.Common.{◌≡◌, ◌-◌, ◌*◌, ◌%◌, ◌^◌, ◌<◌, refl, ap, arith}
-use lib.Bits.{bit_and}
+use Rattle.std.specs.Prelude.{bit_and}
 use Rattle.line.specs.Turns.{bit, turns_before, without_bit}
 use Rattle.line.specs.Least.{least_some}
 use Rattle.line.specs.TurnsLemmas.{round_clear, round_took}
@@ -24,4 +24,4 @@ pub returns : goal.returns
 returns c =
     let l = c.args.self.now in
     let e = gone (goal.at.returns c).Start in
-    record { least = least l _ c.requires; same = refl; moves = rw e (round_took _ _ _ (round l) c.args.next c.requires); word = e; last = refl }
+    record { least = least l _ c.requires; moves = rw e (round_took _ _ _ (round l) c.args.next c.requires); word = e; last = refl }

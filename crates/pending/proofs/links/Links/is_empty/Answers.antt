@@ -1,5 +1,0 @@
-use Rattle.pending.proofs.Stores.{stands, head_tells}
-use Rattle.pending.proofs.links.Links.is_empty.Goals as goal
-
-pub returns : goal.returns
-returns c = head_tells _ _ _ _ _ (stands c.args.self.now)

@@ -1,0 +1,50 @@
+// Keys that are numbers.
+ghost use Rattle.std.specs.Prelude.{◌≡◌, ◌<◌, ⊤};
+ghost use Rattle.pending.specs.KeysLemmas.{below_path};
+
+use crate::key::{Key, NONE};
+use std::alloc::AllocError;
+use std::marker::PhantomData;
+
+// A number from 0 to 254. Its kind T tells what it is the number of, and no value of T is kept.
+#[derive_where(Debug, PartialEq, Eq)]
+pub struct Id<T> {
+    number: u8,
+    kind: PhantomData<T>,
+    ghost below: { number < 255 },
+}
+
+// By hand: beside a ghost field a copy is derived only where there is no type parameter.
+impl<T> Clone for Id<T> {
+    ghost is_clone = { λ x y. y ≡ x };
+
+    ghost is_infallible = { λ _. ⊤ };
+
+    fn clone(&self) -> Result<Id<T>, AllocError> {
+        Ok(*self)
+    }
+}
+
+impl<T> Copy for Id<T> {}
+
+impl<T> Key for Id<T> {
+    ghost code = { λ k. k.number };
+
+    ghost below = { λ k. k.below };
+
+    ghost same = { λ j k e i. record { number = e i; kind = j.kind; below = below_path e j.below k.below i } };
+
+    fn number(&self) -> u8 {
+        self.number
+    }
+
+    fn from_number(number: u8) -> Option<Id<T>> {
+        if number == NONE {
+            return None;
+        }
+        Some(Id {
+            number,
+            kind: PhantomData,
+        })
+    }
+}
