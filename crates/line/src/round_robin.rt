@@ -58,6 +58,7 @@ impl RoundRobin {
         None
     }
 
+    #[tactic(auto, using(crate::specs::Bits::bit_test))]
     fn has_bit(&self, client: u8) -> bool
         requires { client < 32 }
         ensures { result ≡ bit self.now.word client }
