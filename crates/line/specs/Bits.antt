@@ -1,12 +1,12 @@
 -- The bits of a word. Assumes nothing.
-use Rattle.std.specs.Prelude.{◌≡◌, ℕ, zero, suc, ◌+◌, ◌-◌, ◌/◌, ◌%◌, ◌^◌, ◌<◌, ◌≤◌, true, false, cond, not, ◌&&◌, ◌||◌, ◌==◌, nat_eq, refl}
+use Rattle.std.specs.Prelude.{◌≡◌, ℕ, zero, suc, ◌+◌, ◌-◌, ◌/◌, ◌%◌, ◌^◌, ◌<◌, ◌≤◌, true, false, cond, not, ◌&&◌, ◌||◌, ◌==◌, bit_and, nat_eq, refl}
 use Rattle.std.proofs.Common.{sym, ap, subst, ◌∙◌, ⊎_elim, arith, w32}
 use Rattle.std.specs.Int.{bit_at}
 use Rattle.std.specs.Int.Count.{count_trailing_zeros, ones}
 use Rattle.std.proofs.lemmas.Bool.Decides.{nat_tests}
 use Rattle.std.proofs.lemmas.Bool.{eq-eqb, cases_eq, cases_lt}
 use Rattle.std.proofs.lemmas.Nat.{mod_below, pow_below, pow_pos, shr-shr, shr_split, shr_below, ones_cat}
-use Rattle.std.proofs.lemmas.Nat.Bits.{bit_at_and, bit_at_or, bit_at-pow_same, bit_at-pow_other, bit_at_not, bit_at-trailing_zeros, bit_at-lt, bit_at_above, bit_at_cat_low}
+use Rattle.std.proofs.lemmas.Nat.Bits.{bit_at_and, bit_at_or, shr_and_one, bit_at-pow_same, bit_at-pow_other, bit_at_not, bit_at-trailing_zeros, bit_at-lt, bit_at_above, bit_at_cat_low}
 use Rattle.line.specs.Lines.{waiting}
 use Rattle.line.specs.Turns.{bit, with_bit, without_bit}
 use Rattle.line.specs.Waiting.{same_wait}
@@ -50,6 +50,10 @@ bit_clear w n c d hn hw hc =
     (cases_lt d n)
 
 -- ---- a shift to the right
+pub bit_test : (w c : ℕ) → (bit_and (w / 2 ^ c) 1 == 1) ≡ bit w c
+unfolding bit
+bit_test w c = ap (λ b. nat_eq b 1) (shr_and_one w c)
+
 pub bit_shift : (w k i : ℕ) → bit (w / 2 ^ k) i ≡ bit w (k + i)
 unfolding bit
 bit_shift w k i = ap (λ m. nat_eq (m % 2) 1) (shr-shr w k i)

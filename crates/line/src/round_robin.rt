@@ -3,7 +3,7 @@ ghost use Rattle.std.specs.Prelude.{◌≡◌, ◌^◌, ◌<◌, ◌≤◌, IfSo
 ghost use Rattle.std.specs.Result.{result_err};
 ghost use Rattle.line.specs.Lines.{waiting, put_answer, Put, Took, Puts, Takes, number_of};
 ghost use Rattle.line.specs.Making.{make_refusal};
-ghost use Rattle.line.specs.Turns.{bit, with_bit, without_bit, turns_view, LeastPatience, joined, left};
+ghost use Rattle.line.specs.Turns.{bit, with_bit, without_bit, LeastPatience, joined, left};
 ghost use Rattle.line.specs.TurnsLemmas.{round_law};
 
 use crate::line::Line;
@@ -43,14 +43,13 @@ impl RoundRobin {
         })
     }
 
-    // The client whose turn is next behind the given one, if anybody waits: the first behind it, or else the first of all.
-    fn next_behind(&self, last: u8) -> Option<u8>
-        requires { last < self.now.clients }
-        ensures { result ≡ (turns_view self.now.clients last self.now.word).next }
+    // The client whose turn is next, if anybody waits: the first behind the last one, or else the first of all.
+    fn next_client(&self) -> Option<u8>
+        ensures { result ≡ (view self.now).next }
     {
-        let later = (self.word >> last) >> 1;
+        let later = (self.word >> self.last) >> 1;
         if later != 0 {
-            return Some(last + 1 + later.trailing_zeros() as u8);
+            return Some(self.last + 1 + later.trailing_zeros() as u8);
         }
         if self.word != 0 {
             return Some(self.word.trailing_zeros() as u8);
@@ -58,6 +57,7 @@ impl RoundRobin {
         None
     }
 
+    #[tactic(auto, using(crate::specs::Bits::bit_test))]
     fn has_bit(&self, client: u8) -> bool
         requires { client < 32 }
         ensures { result ≡ bit self.now.word client }
@@ -118,7 +118,7 @@ impl Line for RoundRobin {
     }
 
     fn is_empty(&self) -> bool {
-        self.next_behind(self.last).is_none()
+        self.next_client().is_none()
     }
 
     fn put(&mut self, client: u8) -> Result<(), Refusal>
@@ -139,7 +139,7 @@ impl Line for RoundRobin {
         ensures word { self.new.word ≡ left (view self.old).next self.old.word }
         ensures last { self.new.last ≡ unwrap_or (view self.old).next self.old.last }
     {
-        let next = self.next_behind(self.last)?;
+        let next = self.next_client()?;
         self.pass(next);
         Client::from_number(next)
     }
