@@ -1,12 +1,12 @@
 -- The bits of a word. Assumes nothing.
-use Rattle.std.specs.Prelude.{◌≡◌, ℕ, zero, suc, ◌+◌, ◌-◌, ◌/◌, ◌%◌, ◌^◌, ◌<◌, ◌≤◌, true, false, cond, not, ◌&&◌, ◌||◌, ◌==◌, bit_and, nat_eq, refl}
+use Rattle.std.specs.Prelude.{◌≡◌, ℕ, zero, suc, ◌+◌, ◌-◌, ◌/◌, ◌%◌, ◌^◌, ◌<◌, ◌≤◌, true, false, cond, not, ◌≢◌, ◌&&◌, ◌||◌, ◌==◌, bit_and, nat_eq, refl}
 use Rattle.std.proofs.Common.{sym, ap, subst, ◌∙◌, ⊎_elim, arith, w32}
 use Rattle.std.specs.Int.{bit_at}
 use Rattle.std.specs.Int.Count.{count_trailing_zeros, ones}
 use Rattle.std.proofs.lemmas.Bool.Decides.{nat_tests}
-use Rattle.std.proofs.lemmas.Bool.{eq-eqb, cases_eq, cases_lt}
+use Rattle.std.proofs.lemmas.Bool.{cases_eq, cases_lt}
 use Rattle.std.proofs.lemmas.Nat.{mod_below, pow_below, pow_pos, shr-shr, shr_split, shr_below, ones_cat}
-use Rattle.std.proofs.lemmas.Nat.Bits.{bit_at_and, bit_at_or, shr_and_one, bit_at-pow_same, bit_at-pow_other, bit_at_not, bit_at-trailing_zeros, bit_at-lt, bit_at_above, bit_at_cat_low}
+use Rattle.std.proofs.lemmas.Nat.Bits.{bit_at_and, bit_at_or, shr_and_one, bit_at-pow_same, bit_at-pow_other, bit_at_not, bit_at-lt, bit_at_above, bit_at_cat_low}
 use Rattle.line.specs.Lines.{waiting}
 use Rattle.line.specs.Turns.{bit, with_bit, without_bit}
 use Rattle.line.specs.Waiting.{same_wait}
@@ -64,11 +64,34 @@ pub record Lowest (n t : ℕ) : Type 0 where
   pub set : bit n t ≡ true
   pub clear : (j : ℕ) → j < t → bit n j ≡ false
 
-pub lowest : (n : ℕ) → 0 < n → n < 2 ^ 32 → Lowest n (count_trailing_zeros 32 n)
+bit_half : (n c : ℕ) → bit n (suc c) ≡ bit (n / 2) c
+bit_half n c = let e : suc c ≡ 1 + c = omega arith in ap (bit n) e ∙ sym (bit_shift n 1 c)
+
+bit_first : (n : ℕ) → bit n 0 ≡ (n % 2 == 1)
 unfolding bit
-lowest n p h =
-    let z = bit_at-trailing_zeros w32 n p h in
-    record { set = eq-eqb _ 1 z.1; clear = λ j l. ap (λ b. nat_eq b 1) (z.2 j l) }
+bit_first n = let e : n / 2 ^ 0 ≡ n = omega (arith, shr_split n 0, mod_below n 1 (omega arith)) in ap (λ m. nat_eq (m % 2) 1) e
+
+even_clear : (n t : ℕ) → n % 2 ≡ 0 → ((j : ℕ) → j < t → bit (n / 2) j ≡ false) → (j : ℕ) → j < suc t → bit n j ≡ false
+even_clear n t e h zero l = bit_first n ∙ ap (λ m. nat_eq m 1) e
+even_clear n t e h (suc j) l = bit_half n j ∙ h j (omega arith)
+
+pub lowest : (k n : ℕ) → 0 < n → n < 2 ^ k → Lowest n (count_trailing_zeros k n)
+unfolding count_trailing_zeros
+lowest zero n p h = absurd (omega arith)
+lowest (suc k) n p h =
+    let t = count_trailing_zeros k (n / 2) in
+    ⊎_elim
+    (λ (e : n % 2 ≡ 0).
+    let s : k + 1 ≡ suc k = omega arith in
+    let b : n / 2 < 2 ^ k = shr_below n k 1 (rw s h) in
+    let r = lowest k (n / 2) (omega (arith, shr_split n 1)) b in
+    let i : count_trailing_zeros (suc k) n ≡ suc t = grind (arith, common_steps, e) in
+    rw i (record { set = bit_half n t ∙ r.set; clear = even_clear n t e r.clear }))
+    (λ (e : n % 2 ≢ 0).
+    let i : count_trailing_zeros (suc k) n ≡ 0 = grind (arith, common_steps, e) in
+    let f = bit_first n in
+    rw i (record { set = grind (arith, nat_tests, f, e); clear = λ j l. absurd (omega arith) }))
+    (cases_eq (n % 2) 0)
 
 -- ---- how many bits are set
 bit_low : (w n c : ℕ) → c < n → bit (w % 2 ^ n) c ≡ bit w c

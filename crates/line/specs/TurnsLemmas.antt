@@ -95,7 +95,7 @@ module _ (n last w : ℕ) (o : Round n last w) where
   pub next_later : (behind ≢ 0) → next n last w ≡ Some (last + 1 + count_trailing_zeros 32 behind)
   next_later ne =
       let t = count_trailing_zeros 32 behind in
-      let p = lowest behind (omega (arith, ne)) (omega (arith, fits, shr_le (w / 2 ^ last) 1, shr_le w last)) in
+      let p = lowest 32 behind (omega (arith, ne)) (omega (arith, fits, shr_le (w / 2 ^ last) 1, shr_le w last)) in
       let g = last + 1 + t in
       let here : bit w g ≡ true = sym (behind_bit t) ∙ p.set in
       let inside : g < n = bit_below w n g o.known here in
@@ -115,7 +115,7 @@ module _ (n last w : ℕ) (o : Round n last w) where
   pub next_first : behind ≡ 0 → (w ≢ 0) → next n last w ≡ Some (count_trailing_zeros 32 w)
   next_first z ne =
       let g = count_trailing_zeros 32 w in
-      let p = lowest w (omega (arith, ne)) fits in
+      let p = lowest 32 w (omega (arith, ne)) fits in
       let inside : g < n = bit_below w n g o.known p.set in
       let early : (d : ℕ) → bit w d ≡ true → d ≤ last = λ d h. ⊎_elim
       (λ (l : last < d).
