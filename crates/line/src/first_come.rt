@@ -38,7 +38,7 @@ impl FirstCome {
         })
     }
 
-    // Makes a line for so many clients, with so many places, in the place of this one.
+    // Makes a line for so many clients, with so many places, in the place of this one: it is too large to be passed about.
     pub fn make(&mut self, clients: u8, places: u8) -> Result<(), Refusal>
         ensures answer { result_err result ≡ make_refusal clients (places_fit clients places) }
         ensures moves { MatchResult result (λ _. Made clients places self.new) (λ _. self.new ≡ self.old) }

@@ -17,7 +17,7 @@ use pending::key::Key;
 pub struct RoundRobin {
     clients: u8,
     last: u8,
-    // One bit for each of the 32 clients that there can be.
+    // As the rules say, one bit for each of the 32 clients that there can be.
     word: u32,
     ghost few: { clients ≤ 32 },
     ghost inside: { last < clients },

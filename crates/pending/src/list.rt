@@ -11,7 +11,8 @@ use std::marker::PhantomData;
 use std::mem;
 
 // Keys in their order of arrival, each at most once: their numbers are linked.
-// In head, tail and table 255 stands for none: a number's next one is 255 if it is the last, or not there at all.
+// The rules name the store: a head, a tail and a table of 255 next numbers, where 255 stands for none.
+// A number's next one is 255 if it is the last, or not there at all.
 #[derive(Drop)]
 pub struct PendingList<K> {
     head: u8,
