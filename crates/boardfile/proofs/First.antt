@@ -1,5 +1,5 @@
 -- The first fault of bytes: there is at most one, and none where the bytes read as parts. Assumes nothing.
-use Rattle.std.proofs.Common.{rules, ◌≡◌, ℕ, ◌+◌, ◌≤◌, ◌⊎◌, List, [], ◌∷◌, ◌++◌, length, drop, sym, refl, ap, ◌∙◌, subst, inl, inr, arith}
+use Rattle.std.proofs.Common.{rules, ◌≡◌, ℕ, ◌≤◌, ◌⊎◌, List, [], ◌∷◌, ◌++◌, length, drop, sym, refl, ap, ◌∙◌, inl, inr, arith}
 use Rattle.std.specs.List.{flat_map}
 use Rattle.std.proofs.lemmas.List.{append-nil}
 use Rattle.std.proofs.lemmas.Grind.{common_steps}
@@ -29,9 +29,6 @@ Clean F = (f : Fault) → F f → ⊥
 one_check : (P : Type 0) (F later : Fault → Type 0) → One F → One later → One (Check P F later)
 one_check P F later a b f g x y = grind arith
 
-clean_check : (P : Type 0) (F later : Fault → Type 0) → P → Clean later → Clean (Check P F later)
-clean_check P F later p c f x = grind arith
-
 one_at : (kind : FaultKind) (section : Section) (index : ℕ) → One (At kind section index)
 one_at kind section index f g p q = cc
 
@@ -41,30 +38,18 @@ one_none f g p q = absurd p
 -- ---- the first section
 
 one_settings_checks : (s : Settings) (later : Fault → Type 0) → One later → One (SettingsChecks s later)
-one_settings_checks s later h = one_check _ _ _ (one_at _ _ _) (one_check _ _ _ (one_at _ _ _) (one_check _ _ _ (one_at _ _ _) h))
+one_settings_checks s later h f g x y = grind arith
 
 one_settings : (b : List ℕ) (later : Fault → Type 0) → One later → One (SettingsFaulty b later)
-one_settings b later h =
-    one_check _ _ _ (one_at _ _ _) (one_check _ _ _ (one_at _ _ _) (one_check _ _ _ (one_at _ _ _) (one_check _ _ _ (one_at _ _ _)
-    (λ f g x y. one_settings_checks x.0 later h f g x.3
-    (subst (λ (s : Settings). SettingsChecks s later g) (same_settings y.0 x.0 y.1 x.1 (sym y.2 ∙ x.2)).0 y.3)))))
+one_settings b later h f g x y = grind (arith, one_settings_checks, same_settings)
 
 clean_settings_checks : (s : Settings) (later : Fault → Type 0) → SettingsFit s → Clean later → Clean (SettingsChecks s later)
-clean_settings_checks s later h c = clean_check _ _ _ h.clients (clean_check _ _ _ h.places (clean_check _ _ _ h.tasks c))
-
--- the length of a file whose first section ends in t
-section_length : (s : Settings) (t : List ℕ) → length (0 ∷ 1 ∷ (settings_bytes s ++ t)) ≡ 10 + length t
-section_length s t = grind (arith, common_steps, settings_length)
+clean_settings_checks s later h c f x = grind arith
 
 clean_settings : (s : Settings) (t : List ℕ) (later : Fault → Type 0) → SettingsFit s → Clean later → Clean (SettingsFaulty (0 ∷ 1 ∷ (settings_bytes s ++ t)) later)
-clean_settings s t later h c =
-    let l = section_length s t in
-    clean_check _ _ _ (omega arith) (clean_check _ _ _ refl (clean_check _ _ _ (omega arith) (clean_check _ _ _ (s, t, refl, tt)
-    (λ f x. clean_settings_checks s later h c f (subst (λ (s' : Settings). SettingsChecks s' later f) (sym (same_settings s x.0 t x.1 x.2).0) x.3)))))
-
--- what comes after the tests of the settings, put for what came there
-pub checks_map : (s : Settings) (later later' : Fault → Type 0) (f : Fault) → (later f → later' f) → SettingsChecks s later f → SettingsChecks s later' f
-checks_map s later later' f m x = grind arith
+clean_settings s t later h c f x =
+    let l = settings_length s in
+    grind (arith, common_steps, same_settings, clean_settings_checks)
 
 -- a fault of the settings is one of the file
 pub settings_fault : (b : List ℕ) (later : Fault → Type 0) (f : Fault) → SettingsFaulty b NoFault f → SettingsFaulty b later f
