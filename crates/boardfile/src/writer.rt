@@ -24,7 +24,8 @@ fn put_event(event: Call, buf: &mut [u8])
     buf[..event::LEN].copy_from_slice(&event::encode(event));
 }
 
-// Writes the records of the events, one after another.
+// Writes the records of the events, one after another. The buffer is lent by index: of one that an iterator of chunks
+// lent out, a proof knows only the length afterwards.
 fn put_records(events: &[Call], buf: &mut [u8])
     requires { 6 * length events.now ≤ length buf.old }
     ensures { buf.new ≡ flat_map event_bytes events.now ++ drop (6 * length events.now) buf.old }
