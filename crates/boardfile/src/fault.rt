@@ -26,6 +26,7 @@ pub enum FaultKind {
 impl FaultKind {
     ghost use Rattle.boardfile.specs.Numbers.{fault_number, OnlyKind};
 
+    // A method and no `From`, so that the number is asked for as that of a refusal is; sections likewise.
     pub fn number(self) -> u8
         ensures answer { result ≡ fault_number self }
         ensures only { OnlyKind self }
@@ -123,7 +124,7 @@ impl<T: Drop> From<AllocFailed<T>> for ReadError {
     }
 }
 
-// Why a board file was not written.
+// Why a board file was not written. Not one type with `ReadError`: each has a case that cannot come on the other side.
 #[derive(Clone, Copy, PartialEq, Eq, Debug)]
 pub enum WriteError {
     Faulty(Fault),
@@ -133,6 +134,7 @@ pub enum WriteError {
 impl WriteError {
     ghost use Rattle.boardfile.specs.Numbers.{write_number};
 
+    // No `From`: faults of one kind share their number.
     pub fn number(self) -> u8
         ensures { result ≡ write_number self }
     {

@@ -42,7 +42,7 @@ fn take_settings(bytes: &[u8]) -> Result<(Settings, &[u8]), NoLayout>
     Ok((settings, rest))
 }
 
-// The tests of settings that fit their record.
+// The tests of settings that fit their record. A line tests its own size where it is made: it refuses, and knows no sections.
 pub(crate) fn check(settings: Settings) -> Result<(), Fault>
     ensures fit { OnOk result (SettingsFit settings) }
     ensures first { IfErr result (SettingsChecks settings NoFault) }

@@ -96,7 +96,7 @@ fn measure(file: &BoardFile) -> Result<usize, Fault>
     Ok(FIRST_SECTION + count::LEN + event::LEN * file.events.len())
 }
 
-// Writes the file at the start of the buffer, and answers its length.
+// Writes the file at the start of the buffer, and answers its length. The buffer is the caller's: the writer allocates nothing.
 pub fn write(file: &BoardFile, buf: &mut [u8]) -> Result<usize, WriteError>
     ensures answer { Writes file.now buf.old buf.new result }
     ensures reads_back { IfOk result (λ n. ReadsAs (take n buf.new) file.now) }

@@ -4,7 +4,7 @@ use boardfile::reader::read;
 use std::process::Abort;
 use std::test::Fail;
 
-// The bytes are refused by this number, at this section and record.
+// The bytes are refused by this number, at this section and record: told by numbers, since these are what is tested.
 pub(crate) fn refused(
     rt: &(impl Abort + AllocGlobal),
     bytes: &[u8],

@@ -22,7 +22,7 @@ pub enum Answer {
 }
 
 impl Answer {
-    // 0 for a call that was performed, else the number of its refusal.
+    // 0 for a call that was performed, else the number of its refusal. No `From`: many answers share 0.
     pub fn number(self) -> u8
         ensures answer { result ≡ answer_number self }
         ensures performed { result ≡ 0 → is_refused self ≡ false }

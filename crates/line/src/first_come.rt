@@ -104,6 +104,7 @@ impl Line for FirstCome {
         self.queue.is_empty()
     }
 
+    // The trait's clauses stand again, since clauses of one's own replace them.
     fn put(&mut self, client: u8) -> Result<(), Refusal>
         ensures answer { result ≡ put_answer (view self.old) client }
         ensures moves { Puts view self.old client result self.new }

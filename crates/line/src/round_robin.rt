@@ -121,6 +121,7 @@ impl Line for RoundRobin {
         self.next_client().is_none()
     }
 
+    // The trait's clauses stand again, since clauses of one's own replace them.
     fn put(&mut self, client: u8) -> Result<(), Refusal>
         ensures answer { result ≡ put_answer (view self.old) client }
         ensures moves { Puts view self.old client result self.new }
