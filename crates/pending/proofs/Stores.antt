@@ -1,10 +1,11 @@
 -- A store stands for a list of numbers: what each change of the store does to the list. Assumes nothing.
-use Rattle.std.proofs.Common.{◌≡◌, ℕ, ◌+◌, ◌-◌, ◌<◌, ◌≤◌, true, false, cond, not, eqb, ◌≢◌, List, [], ◌∷◌, ◌++◌, length, get_or, set, replicate, sym, refl, ap, ◌∙◌, subst, ⊎_elim, arith}
+use Rattle.std.proofs.Common.{◌≡◌, ℕ, None, ◌+◌, ◌-◌, ◌<◌, ◌≤◌, true, false, cond, not, eqb, ◌≢◌, List, [], ◌∷◌, ◌++◌, length, get_or, set, replicate, sym, refl, ap, ◌∙◌, subst, ⊎_elim, arith}
 use Rattle.std.proofs.lemmas.List.{get_or-replicate, get_or-set_same, get_or-set_other, length_push}
 use Rattle.std.proofs.lemmas.Bool.{and_parts, or_parts, or_from, not-true, both_ways, eqb-true, eq-eqb, ne_eqb, cond-true, cases_eq, cases_Bool}
 use Rattle.pending.specs.Numbers.{has, distinct, ends}
-use Rattle.pending.specs.Chains.{chain, linked, Linked, Distinct, Ended, Clear, Counted}
-use Rattle.pending.specs.Orders.{is_empty}
+use Rattle.pending.specs.Chains.{chain, walk, linked, Linked, Distinct, Ended, Clear, Counted}
+use Rattle.pending.specs.Keys.{number_below}
+use Rattle.pending.specs.Orders.{is_empty, oldest, rest}
 use Rattle.pending.specs.Lists.{order}
 use Rattle.pending.specs.declared.list.PendingList.{PendingList}
 use Rattle.pending.proofs.Numbers.{has_push, distinct_push, below_push, ends_push, has_ends, ends_below, length_below}
@@ -45,10 +46,6 @@ module _ (head tail : ℕ) (next : List ℕ) (len : ℕ) where
   head_tells [] s = s.links
   head_tells (x ∷ xs) s = grind (arith, common_steps)
 
-  pub head_none : (xs : List ℕ) → Stands head tail next len xs → head ≡ 255 → xs ≡ []
-  head_none [] s e = refl
-  head_none (x ∷ xs) s e = let p = link next head x xs s.links in absurd (omega (arith, p.met, p.small))
-
   pub head_first : (xs : List ℕ) → Stands head tail next len xs → (head ≡ 255 → ⊥) → (ys : List ℕ) × (xs ≡ head ∷ ys)
   unfolding linked
   head_first [] s ne = absurd (ne (eqb-true head 255 s.links))
@@ -70,6 +67,14 @@ module _ (head tail : ℕ) (next : List ℕ) (len : ℕ) where
 
 pub list_is_empty : {K : Type 0} (p : PendingList K) → eqb p.head 255 ≡ is_empty (order p)
 list_is_empty p = head_tells _ _ _ _ _ (stands p)
+
+pub list_oldest : {K : Type 0} (p : PendingList K) → oldest (order p) ≡ number_below 255 p.head
+unfolding walk
+list_oldest p = grind (arith, common_steps)
+
+pub rest_none : (xs : List ℕ) → oldest xs ≡ None → rest xs ≡ xs
+rest_none [] e = refl
+rest_none (x ∷ xs) e = absurd (grind (arith, common_steps, e))
 
 pub list_has : {K : Type 0} (p : PendingList K) (k : ℕ) → k < 255 → get_or p.next k 0 ≡ 255 → eqb p.tail k ≡ has k (order p)
 list_has p k b e = tail_tells _ _ _ _ k _ (stands p) b e

@@ -1,5 +1,5 @@
 // The once-pending list.
-ghost use Rattle.std.specs.Prelude.{◌≡◌, true, false, [], ◌∷◌, ◌++◌, length, slice_index, slice_set};
+ghost use Rattle.std.specs.Prelude.{◌≡◌, Some, true, false, [], ◌∷◌, ◌++◌, length, slice_index, slice_set};
 ghost use Rattle.std.specs.Option.{option_map};
 ghost use Rattle.pending.specs.Numbers.{has, distinct};
 ghost use Rattle.pending.specs.Chains.{Linked, Distinct, Ended, Clear, Counted};
@@ -81,17 +81,14 @@ impl<K: Key> PendingList<K> {
     }
 
     // Takes the oldest key. Where there is none, nothing changes.
+    #[tactic(auto, using(crate::proofs::Stores::list_oldest, crate::proofs::Stores::rest_none))]
     pub fn take(&mut self) -> Option<K>
         ensures answer { option_map K.code result ≡ oldest (order self.old) }
         ensures moves { order self.new ≡ rest (order self.old) }
         ensures none { order self.old ≡ [] → self.new ≡ self.old }
     {
         let first = K::from_number(self.head)?;
-        self.head = unlink(&mut self.next, &first);
-        if self.head == NONE {
-            self.tail = NONE;
-        }
-        self.len -= 1;
+        self.remove(&first);
         Some(first)
     }
 
@@ -109,6 +106,18 @@ impl<K: Key> PendingList<K> {
         }
         self.tail = number;
         self.len += 1;
+    }
+
+    // Takes the oldest key out.
+    fn remove(&mut self, first: &K)
+        requires { oldest (order self.old) ≡ Some (K.code first.now) }
+        ensures { order self.new ≡ rest (order self.old) }
+    {
+        self.head = unlink(&mut self.next, first);
+        if self.head == NONE {
+            self.tail = NONE;
+        }
+        self.len -= 1;
     }
 }
 

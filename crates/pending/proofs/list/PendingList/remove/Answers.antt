@@ -1,17 +1,11 @@
-use Rattle.std.proofs.Common.{◌≡◌, ◌-◌, ◌≢◌, cond, eqb, length, get_or, set, sym, refl, ap, ◌∙◌, arith}
-use Rattle.std.specs.Option.{option_map}
+use Rattle.std.proofs.Common.{◌≡◌, ◌-◌, ◌≢◌, cond, eqb, length, get_or, set, sym, ap, ◌∙◌, arith}
 use Rattle.std.proofs.lemmas.Bool.{cond-true, cond-false, eq-eqb, ne_eqb}
 use Rattle.std.proofs.lemmas.Grind.{common_steps}
-use Rattle.pending.specs.Orders.{oldest, rest}
+use Rattle.pending.specs.Orders.{rest}
 use Rattle.pending.specs.Lists.{order}
-use Rattle.pending.proofs.Stores.{Popped, stands, head_none, popped, facts, chain_is}
-use Rattle.pending.proofs.list.PendingList.take.Goals as goal
-use Rattle.pending.proofs.list.PendingList.take.Goals.{then-self, else-self, Joined-self}
-
-pub returns-in_err-first : goal.returns-in_err-first
-returns-in_err-first g c =
-    let e = head_none _ _ _ _ _ (stands c.args.self.now) (grind (arith, common_steps, c.in_err-first.ensures)) in
-    record { answer = ap (option_map g.K.Key.code) c.from_residual.ensures ∙ sym (ap oldest e); moves = e ∙ sym (ap rest e); none = λ _. refl }
+use Rattle.pending.proofs.Stores.{Popped, stands, popped, facts, chain_is, list_oldest}
+use Rattle.pending.proofs.list.PendingList.remove.Goals as goal
+use Rattle.pending.proofs.list.PendingList.remove.Goals.{then-self, else-self, Joined-self}
 
 tail_behind : (g : _) (c : Joined-self g) → c.if-self.self.1.1.0 ≡ cond (eqb c.unlink-self.result 255) 255 c.args.self.now.tail
 tail_behind g c = elim c.if-self.branch [
@@ -24,9 +18,10 @@ after : (g : _) (c : Joined-self g)
     → Popped c.args.self.now.head (order c.args.self.now) c.unlink-self.result c.if-self.self.1.1.0 c.unlink-self.new.next (c.args.self.now.len - 1)
 after g c =
     let p = c.args.self.now in
-    let k = g.K.Key.code c.in_ok-first.first in
-    let e : k ≡ p.head = grind (arith, common_steps, c.in_ok-first.ensures) in
-    let b : p.head ≢ 255 = grind (arith, common_steps, c.in_ok-first.ensures) in
+    let k = g.K.Key.code c.args.first.now in
+    let o = list_oldest p in
+    let e : k ≡ p.head = grind (arith, common_steps, o, c.requires) in
+    let b : p.head ≢ 255 = grind (arith, common_steps, o, c.requires) in
     popped _ _ _ _ _ (omega arith) (stands p) b _ _ _ (c.unlink-self.ensures.answer ∙ ap (λ n. get_or p.next n 0) e) (c.unlink-self.ensures.moves ∙ ap (λ n. set p.next n 255) e) (tail_behind g c)
 
 pub overflow_sub-self : goal.overflow_sub-self
@@ -38,8 +33,4 @@ invariant_of-self g c = facts (after g (goal.at.invariant_of-self g c).Joined-se
 pub returns : goal.returns
 returns g c =
     let a = after g (goal.at.returns g c).Joined-self in
-    record {
-      answer = let o = ap oldest a.order in grind (arith, common_steps, c.in_ok-first.ensures);
-      moves = chain_is a.left ∙ sym (ap rest a.order);
-      none = λ z. absurd (omega (arith, ap length a.order, ap length z));
-    }
+    chain_is a.left ∙ sym (ap rest a.order)
