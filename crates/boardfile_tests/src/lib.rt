@@ -1,4 +1,4 @@
-// Tests of the board file's reader and writer.
+// Tests of the board file: its reader, its writer and its words.
 #![tactic(auto)]
 
 #[cfg(test)]
@@ -7,5 +7,7 @@ mod cases;
 mod example;
 #[cfg(test)]
 mod limits;
+#[cfg(test)]
+mod words;
 #[cfg(test)]
 mod writing;
