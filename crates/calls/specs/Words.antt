@@ -1,6 +1,10 @@
--- Calls in words.
+-- Calls and errors in words.
 -- call_words: a call, by its name and its fields.
-use Rattle.std.specs.Prelude.{ℕ, List, ◌++◌, codes, decimal}
+-- refusal_words: a refusal, by its number, and its value if it has one. failure_words: a transfer that failed, with its byte.
+use Rattle.std.specs.Prelude.{ℕ, List, [], ◌++◌, codes, decimal, Some, None, Option}
+use Rattle.calls.specs.declared.answer.TransferFailed.{TransferFailed}
+use Rattle.calls.specs.declared.refusal.Refusal.{Refusal}
+use Rattle.calls.specs.Refusals.{refusal_number, refusal_value}
 use Rattle.calls.specs.declared.call.Call.{Call}
 use Rattle.calls.specs.declared.call.Call.TheVariants.{Request, Immediate, Release, Begin, Collect, Ready, Done, Tick, Post, Run}
 
@@ -15,3 +19,13 @@ call_words (Done mark byte) = codes "done mark " ++ (decimal mark ++ (codes " by
 call_words Tick = codes "tick"
 call_words (Post task) = codes "post task " ++ decimal task
 call_words Run = codes "run"
+
+abbrev pub value_words : Option ℕ → List ℕ
+value_words None = []
+value_words (Some v) = codes " " ++ decimal v
+
+abbrev pub refusal_words : Refusal → List ℕ
+refusal_words r = codes "no " ++ (decimal (refusal_number r) ++ value_words (refusal_value r))
+
+abbrev pub failure_words : TransferFailed → List ℕ
+failure_words failed = codes "failed " ++ decimal failed.byte

@@ -1,14 +1,28 @@
 // What a board answers to a call.
-ghost use Rattle.std.specs.Prelude.{◌≡◌, false};
+ghost use Rattle.std.specs.Prelude.{◌≡◌, false, Some};
 ghost use Rattle.calls.specs.Answers.{answer_number, answer_value, is_refused};
+ghost use Rattle.calls.specs.Words.{failure_words};
 
 use crate::refusal::Refusal;
+use std::error::Error;
+use std::fmt;
 
 // The transfer failed, with this byte.
 #[derive(Clone, Copy, PartialEq, Eq, Debug)]
 pub struct TransferFailed {
     pub byte: u8,
 }
+
+impl fmt::Display for TransferFailed {
+    ghost output = { λ failed. Some (failure_words failed) };
+
+    fn fmt<W: fmt::Write>(&self, f: &mut fmt::Formatter<W>) -> fmt::Result {
+        let byte = self.byte;
+        write!(f, "failed {byte}")
+    }
+}
+
+impl Error for TransferFailed {}
 
 // One enum for all cases, and no `Result`: each has a number and a value, by methods that std's type cannot be given.
 #[derive(Clone, Copy, PartialEq, Eq, Debug)]

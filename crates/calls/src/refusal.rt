@@ -1,9 +1,13 @@
-// The refusals of the door.
-ghost use Rattle.std.specs.Prelude.{◌≡◌};
+// The refusals of a board: at the door of its calls, and where it and its parts are made.
+ghost use Rattle.std.specs.Prelude.{◌≡◌, ◌↔◌, IsTrue, Some};
 ghost use Rattle.calls.specs.declared.refusal.Refusal.{Refusal};
 ghost use Rattle.calls.specs.Refusals.{refusal_number, refusal_value, OnlyRefusal, refusal_eq};
+ghost use Rattle.calls.specs.Words.{refusal_words};
 
-// The first question at the door that was answered 'no'.
+use std::error::Error;
+use std::fmt;
+
+// The first question that was answered 'no'.
 #[derive(Clone, Copy, PartialEq, Eq, Debug)]
 pub enum Refusal {
     NoSuchClient,
@@ -40,8 +44,9 @@ impl Refusal {
         ensures answer { result ≡ refusal_number self }
         ensures only { OnlyRefusal self }
 
-        // Refusals are compared by number and value.
-        ensures equal { (other : Refusal) → ⟦<Refusal as PartialEq>⟧.eq self other ≡ refusal_eq self other }
+        // Refusals are compared by number and value, and so are equal only to themselves.
+        ensures compared { (other : Refusal) → ⟦<Refusal as PartialEq>⟧.eq self other ≡ refusal_eq self other }
+        ensures equal { (other : Refusal) → IsTrue (⟦<Refusal as PartialEq>⟧.eq self other) ↔ (self ≡ other) }
     {
         match self {
             Refusal::NoSuchClient => 1,
@@ -77,3 +82,18 @@ impl Refusal {
         }
     }
 }
+
+// In the words of a report.
+impl fmt::Display for Refusal {
+    ghost output = { λ refusal. Some (refusal_words refusal) };
+
+    fn fmt<W: fmt::Write>(&self, f: &mut fmt::Formatter<W>) -> fmt::Result {
+        let number = self.number();
+        match self.value() {
+            Some(value) => write!(f, "no {number} {value}"),
+            None => write!(f, "no {number}"),
+        }
+    }
+}
+
+impl Error for Refusal {}
