@@ -1,4 +1,4 @@
-// The record of one event. A call is another crate's type, so its codec is two functions here.
+// The record of one event. A call is another crate's type, so its codec is functions here and no `From`.
 ghost use Rattle.std.specs.Prelude.{◌≡◌, ◌++◌, ◌≢◌, IfOk, OnErr};
 ghost use Rattle.calls.specs.declared.call.Call.{Call};
 ghost use Rattle.boardfile.specs.Layout.{event_bytes};

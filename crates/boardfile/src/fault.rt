@@ -26,7 +26,7 @@ pub enum FaultKind {
 impl FaultKind {
     ghost use Rattle.boardfile.specs.Numbers.{fault_number, OnlyKind};
 
-    // A method and no `From`, so that the number is asked for as that of a refusal is; sections likewise.
+    // No `From`, which would be no plainer: the number of a refusal is asked for by `number` too.
     pub fn number(self) -> u8
         ensures answer { result ≡ fault_number self }
         ensures only { OnlyKind self }
@@ -53,7 +53,7 @@ impl Section {
     }
 }
 
-// The place is the section, and the record in it, from 0.
+// The place is the section, and the record in it, from 0: a tuple, as it is told.
 #[derive(Clone, Copy, PartialEq, Eq, Debug)]
 pub struct Fault {
     pub kind: FaultKind,
@@ -85,6 +85,8 @@ impl fmt::Display for Fault {
         write!(f, "file {number} {section} {index}")
     }
 }
+
+impl Error for Fault {}
 
 // Why a board file was not read.
 #[derive(Clone, Copy, PartialEq, Eq, Debug)]

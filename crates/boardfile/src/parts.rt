@@ -21,8 +21,8 @@ impl Error for NoLayout {}
 
 #[derive(Clone, Copy, PartialEq, Eq, Debug)]
 pub enum LineKind {
-    FirstCome,
-    RoundRobin,
+    FirstCome = 0,
+    RoundRobin = 1,
 }
 
 impl From<LineKind> for u8 {
@@ -31,10 +31,7 @@ impl From<LineKind> for u8 {
     ghost from_gives = { λ kind byte. byte ≡ line_byte kind };
 
     fn from(kind: LineKind) -> u8 {
-        match kind {
-            LineKind::FirstCome => 0,
-            LineKind::RoundRobin => 1,
-        }
+        kind as u8
     }
 }
 
@@ -122,8 +119,8 @@ impl fmt::Display for PolicyKind {
 
 #[derive(Clone, Copy, PartialEq, Eq, Debug)]
 pub enum DeviceKind {
-    Registers,
-    Converter,
+    Registers = 0,
+    Converter = 1,
 }
 
 impl From<DeviceKind> for u8 {
@@ -132,10 +129,7 @@ impl From<DeviceKind> for u8 {
     ghost from_gives = { λ kind byte. byte ≡ device_byte kind };
 
     fn from(kind: DeviceKind) -> u8 {
-        match kind {
-            DeviceKind::Registers => 0,
-            DeviceKind::Converter => 1,
-        }
+        kind as u8
     }
 }
 

@@ -42,7 +42,8 @@ fn take_settings(bytes: &[u8]) -> Result<(Settings, &[u8]), NoLayout>
     Ok((settings, rest))
 }
 
-// The tests of settings that fit their record. A line tests its own size where it is made: it refuses, and knows no sections.
+// The tests of settings that fit their record. Not by a line's own test: its refusals would have to be turned into
+// faults one by one.
 pub(crate) fn check(settings: Settings) -> Result<(), Fault>
     ensures fit { OnOk result (SettingsFit settings) }
     ensures first { IfErr result (SettingsChecks settings NoFault) }

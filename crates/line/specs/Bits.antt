@@ -1,5 +1,5 @@
 -- The bits of a word. Assumes nothing.
-use Rattle.std.specs.Prelude.{◌≡◌, ℕ, zero, suc, ◌+◌, ◌-◌, ◌/◌, ◌%◌, ◌^◌, ◌<◌, ◌≤◌, true, false, cond, not, ◌≢◌, ◌&&◌, ◌||◌, ◌==◌, bit_and, nat_eq, refl}
+use Rattle.std.specs.Prelude.{◌≡◌, ℕ, zero, suc, ◌+◌, ◌-◌, ◌/◌, ◌%◌, ◌^◌, ◌<◌, ◌≤◌, true, false, cond, not, ◌≢◌, ◌&&◌, ◌||◌, ◌==◌, bit_and, bit_or, nat_eq, refl}
 use Rattle.std.proofs.Common.{sym, ap, subst, ◌∙◌, ⊎_elim, arith, w32}
 use Rattle.std.specs.Int.{bit_at}
 use Rattle.std.specs.Int.Count.{count_trailing_zeros, ones}
@@ -23,30 +23,37 @@ bit_below w n c h b = ⊎_elim (λ l. l) (λ (l : n ≤ c). let f = bit_high w n
 pub bit_none : (c : ℕ) → bit 0 c ≡ false
 bit_none c = bit_high 0 c c (pow_pos c) (omega arith)
 
--- ---- one bit set, one cleared
-one : (c d : ℕ) → bit_at (2 ^ c) d ≡ cond (d == c) 1 0
-one c d = ⊎_elim
+-- ---- what is done to words, bit by bit
+bit_of_or : (a b d : ℕ) → bit (bit_or a b) d ≡ (bit a d || bit b d)
+unfolding bit
+bit_of_or a b d = let o = bit_at_or a b d in let p = bit_at-lt a d in let q = bit_at-lt b d in grind (arith, nat_tests)
+
+bit_of_and : (a b d : ℕ) → bit (bit_and a b) d ≡ (bit a d && bit b d)
+unfolding bit
+bit_of_and a b d = let o = bit_at_and a b d in let p = bit_at-lt a d in let q = bit_at-lt b d in grind (arith, nat_tests)
+
+bit_not : (x d : ℕ) → x < 2 ^ 32 → d < 32 → bit (4294967295 - x) d ≡ not (bit x d)
+unfolding bit
+bit_not x d h l = let o = bit_at_not w32 x d h l in let p = bit_at-lt x d in grind (arith, nat_tests)
+
+bit_one : (c d : ℕ) → bit (2 ^ c) d ≡ (d == c)
+unfolding bit
+bit_one c d = ⊎_elim
     (λ (e : d ≡ c). let s : bit_at (2 ^ c) d ≡ 1 = ap (bit_at (2 ^ c)) e ∙ bit_at-pow_same c in grind (arith, nat_tests))
     (λ ne. let s = bit_at-pow_other c d ne in grind (arith, nat_tests))
     (cases_eq d c)
 
+-- ---- one bit set, one cleared
 pub bit_set : (w c d : ℕ) → bit (with_bit w c) d ≡ (bit w d || d == c)
-unfolding bit
-bit_set w c d =
-    let o = bit_at_or w (2 ^ c) d in
-    let b = bit_at-lt w d in
-    let e = one c d in
-    grind (arith, nat_tests)
+bit_set w c d = bit_of_or w (2 ^ c) d ∙ ap (λ b. bit w d || b) (bit_one c d)
 
 pub bit_clear : (w n c d : ℕ) → n ≤ 32 → w < 2 ^ n → c < n → bit (without_bit w c) d ≡ (bit w d && not (d == c))
-unfolding bit
 bit_clear w n c d hn hw hc =
-    let a = bit_at_and w (4294967295 - 2 ^ c) d in
-    let b = bit_at-lt w d in
-    let e = one c d in
+    let o = bit_of_and w (4294967295 - 2 ^ c) d in
+    let e = bit_one c d in
     ⊎_elim
-    (λ (l : d < n). let f = bit_at_not w32 (2 ^ c) d (pow_below c 32 (omega arith)) (omega arith) in grind (arith, nat_tests))
-    (λ (l : n ≤ d). let f = bit_at_above w n d hw l in grind (arith, nat_tests))
+    (λ (l : d < n). let f = bit_not (2 ^ c) d (pow_below c 32 (omega arith)) (omega arith) in grind (arith, nat_tests))
+    (λ (l : n ≤ d). let f = bit_high w n d hw l in grind (arith, nat_tests))
     (cases_lt d n)
 
 -- ---- a shift to the right

@@ -75,7 +75,7 @@ impl FirstCome {
     {
         let client = Client::from_number(client).unwrap();
         // It is not refused, since it is not pending.
-        let _ = self.queue.add(&client);
+        self.queue.add(&client).unwrap();
     }
 }
 
@@ -104,7 +104,7 @@ impl Line for FirstCome {
         self.queue.is_empty()
     }
 
-    // The trait's clauses stand again, since clauses of one's own replace them.
+    // Not a body of the trait's, which could not promise what this line adds; added clauses replace the trait's, so these stand again.
     fn put(&mut self, client: u8) -> Result<(), Refusal>
         ensures answer { result ≡ put_answer (view self.old) client }
         ensures moves { Puts view self.old client result self.new }

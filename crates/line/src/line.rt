@@ -6,6 +6,7 @@ use calls::refusal::Refusal;
 use pending::client::Client;
 
 // A line of waiting clients. It alone decides who of them is next, and no two lines need decide alike.
+// Any number may be put or asked about: the line judges it. No `Model`: a refusal leaves the whole line as it was, and not its view alone.
 pub trait Line {
     // Its clients, its places and the bound on patience, which never change; who waits, how patiently, and who is next.
     ghost view: { Self → LineView };

@@ -17,7 +17,7 @@ use pending::key::Key;
 pub struct RoundRobin {
     clients: u8,
     last: u8,
-    // As the rules say, one bit for each of the 32 clients that there can be.
+    // By docs/lines.md one bit for each of the 32 clients that there can be.
     word: u32,
     ghost few: { clients ≤ 32 },
     ghost inside: { last < clients },
@@ -121,7 +121,7 @@ impl Line for RoundRobin {
         self.next_client().is_none()
     }
 
-    // The trait's clauses stand again, since clauses of one's own replace them.
+    // Not a body of the trait's, which could not promise what this line adds; added clauses replace the trait's, so these stand again.
     fn put(&mut self, client: u8) -> Result<(), Refusal>
         ensures answer { result ≡ put_answer (view self.old) client }
         ensures moves { Puts view self.old client result self.new }

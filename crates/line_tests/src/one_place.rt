@@ -60,6 +60,7 @@ impl Line for OnePlace {
         Ok(())
     }
 
+    // Not `Option::take`, by which the proof did not close where nobody waits.
     fn take(&mut self) -> Option<Client> {
         let waiting = self.waiting?;
         self.waiting = None;

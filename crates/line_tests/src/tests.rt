@@ -1,4 +1,4 @@
-// The list and the lines at work.
+// The list and the lines at work. Refusals are told by their numbers, since these are what is tested.
 use crate::one_place::OnePlace;
 use crate::swap::swap;
 use calls::refusal::Refusal;

@@ -14,7 +14,7 @@ pub struct Id<T> {
     ghost below: { number < 255 },
 }
 
-// By hand: beside a ghost field a copy is derived only where there is no type parameter.
+// By hand: with a type parameter no copy is derived beside a ghost field, and a `Model` would hide the bound that `Key` has as a law.
 impl<T> Clone for Id<T> {
     ghost is_clone = { λ x y. y ≡ x };
 

@@ -6,7 +6,8 @@ ghost use Rattle.pending.specs.Keys.{number_below};
 // Stands for no key.
 pub const NONE: u8 = 255;
 
-// A kind of key: each has a number from 0 to 254, which leads back to it. Two methods and no `From` and `TryFrom`: the laws speak of both.
+// A kind of key: each has a number from 0 to 254, which leads back to it.
+// Two methods of its own: bounds on `From` and `TryFrom` would want laws that tie their results to `code`, and be no plainer.
 pub trait Key: Sized {
     // Its number.
     ghost code: { Self → ℕ };

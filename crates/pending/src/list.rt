@@ -11,8 +11,9 @@ use std::marker::PhantomData;
 use std::mem;
 
 // Keys in their order of arrival, each at most once: their numbers are linked.
-// The rules name the store: a head, a tail and a table of 255 next numbers, where 255 stands for none.
+// docs/pending.md names the store: a head, a tail and a table of 255 next numbers, where 255 stands for none.
 // A number's next one is 255 if it is the last, or not there at all.
+// No `Model`: a refusal leaves the whole store as it was, and not its order alone.
 #[derive(Drop)]
 pub struct PendingList<K> {
     head: u8,
