@@ -1,8 +1,9 @@
 // The count that each section begins with.
-ghost use Rattle.std.specs.Prelude.{◌≡◌, ◌<◌, ◌≤◌, ◌∷◌, ◌++◌, [], length, drop, IfOk, IfErr, OnErr};
+ghost use Rattle.std.specs.Prelude.{◌≡◌, ◌<◌, ◌≤◌, ◌∷◌, length, drop, IfOk, IfErr, OnErr};
 ghost use Rattle.boardfile.specs.Layout.{high, low};
 ghost use Rattle.boardfile.specs.Faults.{At};
 
+use crate::buffer::put;
 use crate::fault::{Fault, FaultKind, Section};
 
 // The bytes of a count.
@@ -25,5 +26,5 @@ pub(crate) fn put_count(count: u16, buf: &mut [u8])
     requires { 2 ≤ length buf.old }
     ensures { buf.new ≡ high count ∷ low count ∷ drop 2 buf.old }
 {
-    buf[..LEN].copy_from_slice(&count.to_be_bytes());
+    put(count.to_be_bytes(), buf);
 }

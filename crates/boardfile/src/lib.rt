@@ -1,6 +1,7 @@
 // The board file: its parts, its reader and its writer.
 #![tactic(auto)]
 
+mod buffer;
 mod count;
 mod event;
 mod events;

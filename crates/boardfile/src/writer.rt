@@ -1,5 +1,5 @@
 // The writer of a board file.
-ghost use Rattle.std.specs.Prelude.{◌≡◌, ℕ, ◌+◌, ◌*◌, ◌≤◌, List, [], ◌∷◌, ◌++◌, length, take, drop, ◌↔◌, IfOk, IfErr, OnOk, IfNone, IfSome, IsTrue};
+ghost use Rattle.std.specs.Prelude.{◌≡◌, ◌+◌, ◌*◌, ◌≤◌, ◌∷◌, ◌++◌, length, take, drop, ◌↔◌, IfOk, IfErr, OnOk, IfNone, IfSome, IsTrue};
 ghost use Rattle.std.specs.List.{flat_map};
 ghost use Rattle.boardfile.specs.Layout.{event_bytes, events_bytes, settings_bytes};
 ghost use Rattle.boardfile.specs.Fits.{EventFits, EventsFit, Fits};
@@ -7,6 +7,7 @@ ghost use Rattle.boardfile.specs.Faults.{UnfitAt, Unwritable};
 ghost use Rattle.boardfile.specs.Reads.{ReadsAs};
 ghost use Rattle.boardfile.specs.Writes.{Measures, Writes};
 
+use crate::buffer::put;
 use crate::count::put_count;
 use crate::fault::{Fault, FaultKind, Section, WriteError};
 use crate::parts::{BoardFile, MOST_EVENTS, Settings};
@@ -16,14 +17,6 @@ use calls::call::Call;
 // The bytes of the first section.
 const FIRST_SECTION: usize = count::LEN + settings::LEN;
 
-// Writes an event's record at the start of the buffer.
-fn put_event(event: Call, buf: &mut [u8])
-    requires { 6 ≤ length buf.old }
-    ensures { buf.new ≡ event_bytes event ++ drop 6 buf.old }
-{
-    buf[..event::LEN].copy_from_slice(&event::encode(event));
-}
-
 // Writes the records of the events, one after another. The buffer is lent by index: of one that an iterator of chunks
 // lent out, a proof knows only the length afterwards.
 fn put_records(events: &[Call], buf: &mut [u8])
@@ -31,7 +24,7 @@ fn put_records(events: &[Call], buf: &mut [u8])
     ensures { buf.new ≡ flat_map event_bytes events.now ++ drop (6 * length events.now) buf.old }
 {
     for (index, event) in events.iter().enumerate() {
-        put_event(*event, &mut buf[event::LEN * index..]);
+        put(event::encode(*event), &mut buf[event::LEN * index..]);
     }
 }
 
@@ -51,7 +44,7 @@ fn put_settings(settings: Settings, buf: &mut [u8])
     ensures { buf.new ≡ 0 ∷ 1 ∷ (settings_bytes settings ++ drop 10 buf.old) }
 {
     put_count(1, buf);
-    buf[count::LEN..FIRST_SECTION].copy_from_slice(&<[u8; 8]>::from(settings));
+    put(<[u8; 8]>::from(settings), &mut buf[count::LEN..]);
 }
 
 fn fits(event: Call) -> bool

@@ -2,7 +2,9 @@
 use boardcopy::CopyError;
 use boardfile::fault::*;
 use boardfile::parts::*;
+use calls::answer::TransferFailed;
 use calls::call::{Call, Order};
+use calls::refusal::Refusal;
 use std::alloc::Global;
 use std::fmt::Display;
 use std::process::Abort;
@@ -67,5 +69,8 @@ fn errors_in_words(rt: HostRuntime) -> Result<(), Fail> {
         &CopyError::from(WriteError::TooSmall),
         "the buffer is too small",
     )?;
-    says(&rt, heap, &NoLayout, "the bytes are no layout")
+    says(&rt, heap, &NoLayout, "the bytes are no layout")?;
+    says(&rt, heap, &TransferFailed { byte: 9 }, "failed 9")?;
+    says(&rt, heap, &Refusal::TransferNotQuiet, "no 6")?;
+    says(&rt, heap, &Refusal::OrderRejected { verdict: 3 }, "no 7 3")
 }
