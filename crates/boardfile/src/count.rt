@@ -6,7 +6,7 @@ ghost use Rattle.boardfile.specs.Faults.{At};
 use crate::buffer::put;
 use crate::fault::{Fault, FaultKind, Section};
 
-// The bytes of a count.
+// How many bytes a count has.
 pub(crate) const LEN: usize = 2;
 
 // The count that the bytes of a section begin with, and the bytes after it.

@@ -8,7 +8,7 @@ ghost use Rattle.boardfile.specs.Faults.{NoEvent};
 use crate::parts::NoLayout;
 use calls::call::{Call, Order};
 
-// The bytes of a record.
+// How many bytes a record has.
 pub(crate) const LEN: usize = 6;
 
 // The event that a record's bytes lay out, if it fits.

@@ -95,6 +95,7 @@ pub enum ReadError {
     NoMemory,
 }
 
+// Words by hand, here and below: a derive of `thiserror` would promise none of them.
 impl fmt::Display for ReadError {
     ghost use Rattle.boardfile.specs.Words.{read_error_words};
 

@@ -123,6 +123,7 @@ pub enum DeviceKind {
     Converter = 1,
 }
 
+// Alike to the impls of `LineKind`: std wants one for each type, and a macro of one's own may write none.
 impl From<DeviceKind> for u8 {
     ghost use Rattle.boardfile.specs.Layout.{device_byte};
 

@@ -9,7 +9,7 @@ use crate::count::take_count;
 use crate::fault::{Fault, FaultKind, Section};
 use crate::parts::{DeviceKind, LineKind, NoLayout, PolicyKind, Settings};
 
-// The bytes of a record.
+// How many bytes a record has.
 pub(crate) const LEN: usize = 8;
 
 // The settings whose record the bytes begin with, and the bytes after it.

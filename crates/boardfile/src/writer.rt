@@ -14,7 +14,7 @@ use crate::parts::{BoardFile, MOST_EVENTS, Settings};
 use crate::{count, event, settings};
 use calls::call::Call;
 
-// The bytes of the first section.
+// How many bytes the first section has.
 const FIRST_SECTION: usize = count::LEN + settings::LEN;
 
 // Writes the records of the events, one after another. The buffer is lent by index: of one that an iterator of chunks

@@ -47,6 +47,7 @@ impl RoundRobin {
     fn next_client(&self) -> Option<u8>
         ensures { result ≡ (view self.now).next }
     {
+        // In two steps, since there is no shift by 32.
         let later = (self.word >> self.last) >> 1;
         if later != 0 {
             return Some(self.last + 1 + later.trailing_zeros() as u8);

@@ -14,7 +14,7 @@ use pending::key::Key;
 pub struct OnePlace {
     clients: u8,
     waiting: Option<Client>,
-    // So each client has a key.
+    // True of any byte; so a proof knows, where it does not read the field, that each client has a key.
     ghost few: { clients ≤ 255 },
     ghost known: { known clients (number_of waiting) ≡ true },
 }

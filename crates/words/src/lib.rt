@@ -1,4 +1,4 @@
-// Board files in words.
+// The listing of a board file.
 #![tactic(auto)]
 
 pub mod listing;
