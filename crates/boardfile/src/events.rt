@@ -28,6 +28,7 @@ pub(crate) fn read_events(heap: Global, bytes: &[u8]) -> Result<Vec<Call>, ReadE
     }
     let mut events = Vec::new(heap);
     let mut rest = records;
+    // By number, which a fault tells; each record is taken off the rest by a slice pattern.
     for index in 0..count {
         let Ok((event, more)) = take_event(rest) else {
             return Err(Fault::new(FaultKind::Unfit, Section::Events, index).into());

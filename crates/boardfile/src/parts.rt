@@ -64,6 +64,7 @@ impl fmt::Display for LineKind {
     }
 }
 
+// By the names of the two policies: an `Option` of a delay would not say what none means, and there may be more kinds than two.
 #[derive(Clone, Copy, PartialEq, Eq, Debug)]
 pub enum PolicyKind {
     Immediate,
