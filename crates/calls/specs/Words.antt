@@ -1,6 +1,7 @@
 -- Calls and errors in words.
 -- call_words: a call, by its name and its fields.
--- refusal_words: a refusal, by its number, and its value if it has one. failure_words: a transfer that failed, with its byte.
+-- refusal_words: a refusal, by its number, and by its value if it has one (value_words).
+-- failure_words: a transfer that failed, with its byte.
 use Rattle.std.specs.Prelude.{ℕ, List, [], ◌++◌, codes, decimal, Some, None, Option}
 use Rattle.calls.specs.declared.answer.TransferFailed.{TransferFailed}
 use Rattle.calls.specs.declared.refusal.Refusal.{Refusal}

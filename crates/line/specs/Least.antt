@@ -1,10 +1,9 @@
 -- The one of least patience among those who wait. Assumes nothing.
 use Rattle.std.specs.Prelude.{◌≡◌, ℕ, zero, suc, ◌<◌, ◌≤◌, Bool, true, false, ◌≢◌, Some, None, Option, refl}
-use Rattle.std.proofs.Common.{sym, ap, ◌∙◌, arith}
+use Rattle.std.proofs.Common.{arith}
 use Rattle.std.proofs.Math.Path.{subst}
-use Rattle.std.proofs.Math.Logic.{⊎_elim}
-use Rattle.std.proofs.lemmas.Bool.{both_ways, cases_eq}
-use Rattle.line.specs.Turns.{sooner, least}
+use Rattle.std.proofs.lemmas.Bool.{both_ways}
+use Rattle.line.specs.Turns.{least}
 use Rattle.std.proofs.lemmas.Grind.{common_steps}
 
 module _ (waits : ℕ → Bool) (patience : ℕ → ℕ) where
@@ -17,30 +16,6 @@ module _ (waits : ℕ → Bool) (patience : ℕ → ℕ) where
   abbrev pub Least : ℕ → Option ℕ → Type 0
   Least n None = (d : ℕ) → d < n → waits d ≡ false
   Least n (Some g) = Found n g
-
-  -- one more client to look at: it does not wait
-  pass : (n : ℕ) (o : Option ℕ) → waits n ≡ false → Least n o → Least (suc n) o
-  pass n None w h = grind (arith, common_steps)
-  pass n (Some g) w h = record {
-    inside = omega (arith, h.inside);
-    here = h.here;
-    first = λ d l t. ⊎_elim
-        (λ (e : d ≡ n). absurd (both_ways (waits n) w (ap waits (sym e) ∙ t)))
-        (λ (e : d ≢ n). h.first d (omega (arith, e)) t)
-        (cases_eq d n);
-  }
-
-  -- it waits
-  meet : (n : ℕ) (o : Option ℕ) → waits n ≡ true → Least n o → Least (suc n) (sooner patience n o)
-  meet n None w h = record {
-    inside = omega arith;
-    here = w;
-    first = λ d l t. ⊎_elim
-        (λ (e : d ≡ n). omega (arith, ap patience e))
-        (λ (e : d ≢ n). absurd (both_ways (waits d) (h d (omega (arith, e))) t))
-        (cases_eq d n);
-  }
-  meet n (Some g) w h = grind (arith, common_steps)
 
   pub least_law : (n : ℕ) → Least n (least waits patience n)
   unfolding least

@@ -120,6 +120,7 @@ impl Line for FirstCome {
         ensures moves { Takes view self.old result self.new }
         ensures exact { arrivals self.new ≡ rest (arrivals self.old) }
     {
+        // Asked first, so that the whole line is seen to stay as it was.
         if self.is_empty() {
             return None;
         }
