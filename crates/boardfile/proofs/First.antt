@@ -7,6 +7,7 @@ use Rattle.calls.specs.declared.call.Call.{Call}
 use Rattle.boardfile.specs.declared.parts.Settings.{Settings}
 use Rattle.boardfile.specs.declared.fault.FaultKind.{FaultKind}
 use Rattle.boardfile.specs.declared.fault.Section.{Section}
+use Rattle.boardfile.specs.declared.fault.Section.TheVariants.{Events}
 use Rattle.boardfile.specs.declared.fault.Fault.{Fault}
 use Rattle.boardfile.specs.declared.fault.ReadError.{ReadError}
 use Rattle.boardfile.specs.declared.fault.ReadError.TheVariants.{Faulty, NoMemory}
@@ -70,8 +71,9 @@ one_unfit b f g (i, t, has, none, e) (j, u, has', none', e') = grind (arith, non
 
 one_events : (b : List ℕ) → One (EventsFaulty b)
 one_events b =
-    one_check _ _ _ (one_at _ _ _) (one_check _ _ _ (one_at _ _ _) (one_check _ _ _ (one_at _ _ _) (one_check _ _ _ (one_unfit b)
-    (one_check _ _ _ (one_at _ _ _) one_none))))
+    let at : (kind : FaultKind) (index : ℕ) → One (At kind Events index) = λ kind index. one_at kind Events index in
+    one_check _ _ _ (at _ _) (one_check _ _ _ (at _ _) (one_check _ _ _ (at _ _) (one_check _ _ _ (one_unfit b)
+    (one_check _ _ _ (at _ _) one_none))))
 
 clean_events : (es : List Call) → length es ≤ 4096 → EventsFit es → Clean (EventsFaulty (events_bytes es))
 clean_events es h fit f x =

@@ -9,7 +9,6 @@ use Rattle.boardfile.specs.declared.parts.Settings.{Settings}
 use Rattle.boardfile.specs.declared.fault.Fault.{Fault}
 use Rattle.boardfile.specs.declared.fault.ReadError.{ReadError}
 use Rattle.boardfile.specs.declared.fault.ReadError.TheVariants.{Faulty, NoMemory}
-use Rattle.boardfile.specs.declared.fault.Section.TheVariants as section
 use Rattle.boardfile.specs.declared.fault.FaultKind.TheVariants.{Trailing}
 use Rattle.boardfile.specs.Layout.{settings_bytes, event_bytes}
 use Rattle.boardfile.specs.Faults.{count_of, SettingsChecks, HasSettings, HasEvents, NoEvent, FirstUnfit, SettingsFaulty, EventsFaulty, FileFaulty, PassesSettings, WantsMemory, ReadRefused}
@@ -105,7 +104,7 @@ events_longer u z f h (inr (p, inr (q, inr (r, inr (all, inl a))))) =
           omega arith,
           inr (
             (all.0 ++ z, subst (λ (k : ℕ). HasEvents (u ++ z) k (all.0 ++ z)) (sym n) (events_forth u z all.0 (count_of u) p all.1)),
-            inl (λ e. omega arith, a.1 ∙ ap (λ (k : ℕ). record { kind = Trailing; place = (section.Events, k) }) (sym n)),
+            inl (λ e. omega arith, a.1 ∙ ap (λ (k : ℕ). record { kind = Trailing; place = (2, k) }) (sym n)),
           ),
         ),
       ),

@@ -19,6 +19,7 @@ use Rattle.boardfile.specs.declared.fault.ReadError.TheVariants as read
 use Rattle.boardfile.specs.declared.fault.WriteError.{WriteError}
 use Rattle.boardfile.specs.declared.fault.WriteError.TheVariants as write
 use Rattle.boardfile.specs.Layout.{settings_bytes, event_bytes, layout}
+use Rattle.boardfile.specs.Numbers.{section_number}
 use Rattle.boardfile.specs.Fits.{ClientsFit, PlacesFit, TasksFit, SettingsFit, EventFits, EventsFit, Fits}
 
 -- f is a fault of this test, or else of a later one
@@ -31,7 +32,7 @@ NoFault f = ⊥
 
 -- the fault of this kind, at this section and record
 abbrev pub At : FaultKind → Section → ℕ → Fault → Type 0
-At kind section index f = f ≡ record { kind = kind; place = (section, index) }
+At kind section index f = f ≡ record { kind = kind; place = (section_number section, index) }
 
 -- a section's count
 abbrev pub count_of : List ℕ → ℕ

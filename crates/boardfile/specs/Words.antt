@@ -13,7 +13,7 @@ use Rattle.boardfile.specs.declared.fault.ReadError.{ReadError}
 use Rattle.boardfile.specs.declared.fault.ReadError.TheVariants as read
 use Rattle.boardfile.specs.declared.fault.WriteError.{WriteError}
 use Rattle.boardfile.specs.declared.fault.WriteError.TheVariants as write
-use Rattle.boardfile.specs.Numbers.{fault_number, section_number}
+use Rattle.boardfile.specs.Numbers.{fault_number}
 
 abbrev pub line_word : LineKind → List ℕ
 line_word FirstCome = codes "first-come"
@@ -31,7 +31,7 @@ abbrev pub settings_words : Settings → List ℕ
 settings_words s = codes "clients " ++ (decimal s.clients ++ (codes " places " ++ (decimal s.places ++ (codes " tasks " ++ (decimal s.tasks ++ (codes " line " ++ (line_word s.line ++ (codes " policy " ++ (policy_words s.policy ++ (codes " device " ++ device_word s.device))))))))))
 
 abbrev pub fault_words : Fault → List ℕ
-fault_words f = codes "file " ++ (decimal (fault_number f.kind) ++ (codes " " ++ (decimal (section_number f.place.0) ++ (codes " " ++ decimal f.place.1))))
+fault_words f = codes "file " ++ (decimal (fault_number f.kind) ++ (codes " " ++ (decimal f.place.0 ++ (codes " " ++ decimal f.place.1))))
 
 abbrev pub read_error_words : ReadError → List ℕ
 read_error_words (read.Faulty f) = fault_words f

@@ -3,24 +3,25 @@ ghost use Rattle.std.specs.Prelude.{◌≡◌, Some};
 ghost use Rattle.boardfile.specs.declared.fault.ReadError.TheVariants as read;
 ghost use Rattle.boardfile.specs.declared.fault.WriteError.TheVariants as write;
 
+use calls::refusal::Refusal;
 use std::alloc::AllocFailed;
 use std::error::Error;
 use std::fmt;
 
-// The first three are refusals of a board's set-up, with the numbers of those.
 #[derive(Clone, Copy, PartialEq, Eq, Debug)]
 pub enum FaultKind {
-    Clients = 16,
-    Places = 17,
-    Tasks = 18,
+    // The settings are refused as a board's would be.
+    Clients,
+    Places,
+    Tasks,
     // A count or a record is not there, or not whole.
-    Missing = 21,
+    Missing,
     // A count is not allowed.
-    Count = 22,
+    Count,
     // A record is no layout of settings or of an event.
-    Unfit = 23,
+    Unfit,
     // Bytes follow the last record.
-    Trailing = 24,
+    Trailing,
 }
 
 impl FaultKind {
@@ -31,7 +32,15 @@ impl FaultKind {
         ensures answer { result ≡ fault_number self }
         ensures only { OnlyKind self }
     {
-        self as u8
+        match self {
+            FaultKind::Clients => Refusal::ClientsOutOfRange.number(),
+            FaultKind::Places => Refusal::PlacesOutOfRange.number(),
+            FaultKind::Tasks => Refusal::TasksOutOfRange.number(),
+            FaultKind::Missing => 21,
+            FaultKind::Count => 22,
+            FaultKind::Unfit => 23,
+            FaultKind::Trailing => 24,
+        }
     }
 }
 
@@ -53,11 +62,12 @@ impl Section {
     }
 }
 
-// The place is the section, and the record in it, from 0: a tuple, as it is told.
+// The place is the section, from 1, and the record in it, from 0: a tuple of numbers, as it is told. Whoever holds a fault may
+// name any section; `new` makes those of a board file.
 #[derive(Clone, Copy, PartialEq, Eq, Debug)]
 pub struct Fault {
     pub kind: FaultKind,
-    pub place: (Section, u16),
+    pub place: (u8, u16),
 }
 
 impl Fault {
@@ -68,7 +78,7 @@ impl Fault {
     {
         Fault {
             kind,
-            place: (section, index),
+            place: (section.number(), index),
         }
     }
 }
@@ -81,7 +91,6 @@ impl fmt::Display for Fault {
     fn fmt<W: fmt::Write>(&self, f: &mut fmt::Formatter<W>) -> fmt::Result {
         let number = self.kind.number();
         let (section, index) = self.place;
-        let section = section.number();
         write!(f, "file {number} {section} {index}")
     }
 }

@@ -14,7 +14,7 @@ pub(crate) fn refused(
         Ok(_) => Err(Fail::new("a faulty file was read")),
         Err(ReadError::Faulty(fault)) => {
             let (section, record) = fault.place;
-            assert_eq!(rt; (fault.kind.number(), section.number(), record), told);
+            assert_eq!(rt; (fault.kind.number(), section, record), told);
             Ok(())
         }
         Err(ReadError::NoMemory) => Err(Fail::new("no memory")),

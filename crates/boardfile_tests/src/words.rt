@@ -53,6 +53,10 @@ fn errors_in_words(rt: HostRuntime) -> Result<(), Fail> {
     let heap = rt.alloc();
     let fault = Fault::new(FaultKind::Unfit, Section::Events, 7);
     says(&rt, heap, &fault, "file 23 2 7")?;
+    // Whoever holds a fault may name any section.
+    let place = (9, 3);
+    let kind = FaultKind::Unfit;
+    says(&rt, heap, &Fault { kind, place }, "file 23 9 3")?;
     says(&rt, heap, &ReadError::from(fault), "file 23 2 7")?;
     says(&rt, heap, &ReadError::NoMemory, "out of memory")?;
     says(&rt, heap, &WriteError::from(fault), "file 23 2 7")?;

@@ -31,7 +31,7 @@ fn dones(heap: Global, mark: u8, count: usize) -> Result<BoardFile, AllocError> 
     })
 }
 
-fn faulty(kind: FaultKind, place: (Section, u16)) -> Result<usize, WriteError> {
+fn faulty(kind: FaultKind, place: (u8, u16)) -> Result<usize, WriteError> {
     Err(WriteError::Faulty(Fault { kind, place }))
 }
 
@@ -62,29 +62,14 @@ fn refuses_its_parts(rt: HostRuntime) -> Result<(), Fail> {
     let mut file = dones(heap, 2, 4097)?;
     // Each fault comes before the next, and all before a buffer that is too small.
     file.settings = settings(33, 0, 0);
-    assert_eq!(rt;
-        write(&file, &mut none),
-        faulty(FaultKind::Clients, (Section::Settings, 0))
-    );
+    assert_eq!(rt; write(&file, &mut none), faulty(FaultKind::Clients, (1, 0)));
     file.settings = settings(4, 3, 0);
-    assert_eq!(rt;
-        write(&file, &mut none),
-        faulty(FaultKind::Places, (Section::Settings, 0))
-    );
+    assert_eq!(rt; write(&file, &mut none), faulty(FaultKind::Places, (1, 0)));
     file.settings = settings(4, 4, 0);
-    assert_eq!(rt;
-        write(&file, &mut none),
-        faulty(FaultKind::Tasks, (Section::Settings, 0))
-    );
+    assert_eq!(rt; write(&file, &mut none), faulty(FaultKind::Tasks, (1, 0)));
     file.settings = settings(4, 4, 1);
-    assert_eq!(rt;
-        write(&file, &mut none),
-        faulty(FaultKind::Count, (Section::Events, 0))
-    );
+    assert_eq!(rt; write(&file, &mut none), faulty(FaultKind::Count, (2, 0)));
     let _ = file.events.pop();
-    assert_eq!(rt;
-        write(&file, &mut none),
-        faulty(FaultKind::Unfit, (Section::Events, 0))
-    );
+    assert_eq!(rt; write(&file, &mut none), faulty(FaultKind::Unfit, (2, 0)));
     Ok(())
 }
