@@ -2,7 +2,7 @@
 #![tactic(auto)]
 
 use std::alloc::Global;
-use std::io::{Read, Write};
+use std::io::{self, Read, Write};
 use std::process::ExitCode;
 use words::listing::list;
 
@@ -19,7 +19,8 @@ fn run(heap: Global, input: impl Read + Drop, output: &mut impl Write) -> anyhow
 }
 
 fn main(rt: HostRuntime) -> ExitCode {
-    match run(rt.alloc(), rt.stdin(), &mut rt.stdout()) {
+    // By a writer of the runtime: of a write that is interrupted again and again it gives up, and ends with an error.
+    match run(rt.alloc(), rt.stdin(), &mut io::writer(&rt)) {
         Ok(()) => ExitCode::SUCCESS,
         Err(error) => {
             let _ = eprintln!(rt; "listing: {error}");
