@@ -4,10 +4,16 @@ ghost use Rattle.pending.specs.KeysLemmas.{below_path};
 
 use crate::key::{Key, NONE};
 use std::alloc::AllocError;
+use std::fmt;
 use std::marker::PhantomData;
 
+// What a number is the number of, by its name.
+pub trait Kind {
+    const NAME: &'static str;
+}
+
 // A number from 0 to 254. Its kind T tells what it is the number of, and no value of T is kept.
-#[derive_where(Debug, PartialEq, Eq)]
+#[derive_where(PartialEq, Eq)]
 pub struct Id<T> {
     number: u8,
     kind: PhantomData<T>,
@@ -26,6 +32,14 @@ impl<T> Clone for Id<T> {
 }
 
 impl<T> Copy for Id<T> {}
+
+// By hand, so that a client and a task read as such.
+impl<T: Kind> fmt::Debug for Id<T> {
+    fn fmt<W: fmt::Write>(&self, f: &mut fmt::Formatter<W>) -> fmt::Result {
+        let Id { number, .. } = self;
+        f.debug_struct(T::NAME).field("number", number).finish()
+    }
+}
 
 impl<T> Key for Id<T> {
     ghost code = { λ k. k.number };

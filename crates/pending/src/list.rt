@@ -1,5 +1,5 @@
 // The once-pending list.
-ghost use Rattle.std.specs.Prelude.{◌≡◌, Some, true, false, [], ◌∷◌, ◌++◌, length, slice_index, slice_set};
+ghost use Rattle.std.specs.Prelude.{◌≡◌, Some, true, false, [], ◌∷◌, ◌++◌, length, if◌then◌else◌, nat_eq, slice_index, slice_set};
 ghost use Rattle.std.specs.Option.{option_map};
 ghost use Rattle.pending.specs.Numbers.{has, distinct};
 ghost use Rattle.pending.specs.Chains.{Linked, Distinct, Ended, Clear, Counted};
@@ -115,11 +115,16 @@ impl<K: Key> PendingList<K> {
         ensures { order self.new ≡ rest (order self.old) }
     {
         self.head = unlink(&mut self.next, first);
-        if self.head == NONE {
-            self.tail = NONE;
-        }
+        self.tail = tail_behind(self.head, self.tail);
         self.len -= 1;
     }
+}
+
+// The tail of what begins with `head`, if it is not empty.
+fn tail_behind(head: u8, tail: u8) -> u8
+    ensures { result ≡ (if nat_eq head 255 then 255 else tail) }
+{
+    if head == NONE { NONE } else { tail }
 }
 
 // Takes the number that is next to the key's out of the table.
