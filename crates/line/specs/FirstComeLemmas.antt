@@ -16,10 +16,10 @@ use Rattle.std.proofs.lemmas.Grind.{common_steps}
 pub queue : (l : FirstCome) → Queue l.size.clients l.size.places (arrivals l)
 queue l = record { few = l.size.few; some = l.size.some; fitting = l.size.fitting; once = once l.queue; placed = l.placed; known = l.known }
 
--- what a line carries, by the names of its ghost fields
+-- what a line carries, by the names of its size's ghost fields and of its own
 pub facts : (n k : ℕ) (xs ys : List ℕ) → ys ≡ xs → Queue n k xs
-    → record { placed : length ys ≤ k; known : below n ys ≡ true }
-facts n k xs ys e q = record { placed = rw e q.placed; known = rw e q.known }
+    → record { few : n ≤ 32; some : 1 ≤ k; fitting : k ≤ n; placed : length ys ≤ k; known : below n ys ≡ true }
+facts n k xs ys e q = record { few = q.few; some = q.some; fitting = q.fitting; placed = rw e q.placed; known = rw e q.known }
 
 pub queue_rest : (n k : ℕ) (xs : List ℕ) → Queue n k xs → Queue n k (rest xs)
 queue_rest n k [] q = q
@@ -31,8 +31,15 @@ took n k (x ∷ xs) ys g q e m =
     let i : g ≡ x = grind (arith, e) in
     rw (i, m) (queue_took n k x xs q)
 
--- what a take of the list is to the line, whose size stays
+-- what a take of the list is to a line of the size before, whatever size is kept beside the list after it
+pub queue_taken : (before : FirstCome) (r : Option Client) (after : FirstCome) → is_empty (view before) ≡ false
+    → number_of r ≡ oldest (arrivals before) → arrivals after ≡ rest (arrivals before)
+    → Takes (λ l. arrivals_view before.size.clients before.size.places (arrivals l)) before r after
+queue_taken before None after some e m = grind (arith, common_steps)
+queue_taken before (Some g) after some e m = took _ _ _ _ g.number (queue before) (sym e) m
+
+-- what it is to the line, whose size stays
 pub queue_take : (before : FirstCome) (r : Option Client) (after : FirstCome) → after.size ≡ before.size
     → is_empty (view before) ≡ false → number_of r ≡ oldest (arrivals before) → arrivals after ≡ rest (arrivals before) → Takes view before r after
-queue_take before None after s some e m = grind (arith, common_steps)
-queue_take before (Some g) after s some e m = rw s (took _ _ _ _ g.number (queue before) (sym e) m)
+queue_take before None after s some e m = queue_taken before None after some e m
+queue_take before (Some g) after s some e m = rw s (queue_taken before (Some g) after some e m)

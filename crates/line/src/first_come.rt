@@ -93,7 +93,8 @@ impl Line for FirstCome {
 
     #[tactic(auto, using(crate::specs::ArrivalsLemmas::has_above))]
     fn is_waiting(&self, client: u8) -> bool {
-        Client::from_number(client).is_some_and(|client| self.queue.is_pending(&client))
+        client < self.size.clients
+            && Client::from_number(client).is_some_and(|client| self.queue.is_pending(&client))
     }
 
     fn is_full(&self) -> bool {

@@ -122,6 +122,18 @@ impl Line for RoundRobin {
         self.next_client().is_none()
     }
 
+    // Not the trait's: who does not wait finds a place, since there is one for each client.
+    #[tactic(auto, using(crate::specs::RoundRobinLemmas::place_free))]
+    fn check_put(&self, client: u8) -> Result<(), Refusal> {
+        if client >= self.clients {
+            return Err(Refusal::NoSuchClient);
+        }
+        if self.is_waiting(client) {
+            return Err(Refusal::AlreadyRequested);
+        }
+        Ok(())
+    }
+
     // Not a body of the trait's, which could not promise what this line adds; added clauses replace the trait's, so these stand again.
     fn put(&mut self, client: u8) -> Result<(), Refusal>
         ensures answer { result ≡ put_answer (view self.old) client }

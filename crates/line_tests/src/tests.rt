@@ -5,6 +5,7 @@ use calls::refusal::Refusal;
 use line::first_come::FirstCome;
 use line::line::Line;
 use line::round_robin::RoundRobin;
+use pending::client::Client;
 use pending::key::{Key, NONE};
 use pending::list::PendingList;
 use pending::task::Task;
@@ -33,6 +34,17 @@ fn a_list_of_all_keys(rt: HostRuntime) {
     }
     assert!(rt; list.is_empty());
     assert!(rt; list.take().is_none());
+}
+
+// A client and a task of one number read as what they are.
+#[test]
+fn keys_by_their_kind(rt: HostRuntime) -> Result<(), Fail> {
+    let heap = rt.alloc();
+    let client = format!(in heap; "{:?}", Client::from_number(3))?;
+    assert!(rt; client.as_str() == "Some(Client { number: 3 })");
+    let task = format!(in heap; "{:?}", Task::from_number(3))?;
+    assert!(rt; task.as_str() == "Some(Task { number: 3 })");
+    Ok(())
 }
 
 fn put<L: Line>(line: &mut L, client: u8) -> Result<(), u8> {

@@ -21,7 +21,7 @@ after c =
     queue_push _ _ _ (arrivals l) (queue l) c.requires.known c.requires.absent (grind (arith, nat_tests))
 
 pub invariant_of-self : goal.invariant_of-self
-invariant_of-self c = facts _ _ _ _ (grown c) (after c)
+invariant_of-self c = let f = facts _ _ _ _ (grown c) (after c) in record { placed = f.placed; known = f.known }
 
 pub returns : goal.returns
 returns c =
