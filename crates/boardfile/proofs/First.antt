@@ -71,9 +71,8 @@ one_unfit b f g (i, t, has, none, e) (j, u, has', none', e') = grind (arith, non
 
 one_events : (b : List ℕ) → One (EventsFaulty b)
 one_events b =
-    let at : (kind : FaultKind) (index : ℕ) → One (At kind Events index) = λ kind index. one_at kind Events index in
-    one_check _ _ _ (at _ _) (one_check _ _ _ (at _ _) (one_check _ _ _ (at _ _) (one_check _ _ _ (one_unfit b)
-    (one_check _ _ _ (at _ _) one_none))))
+    one_check _ _ _ (one_at _ Events _) (one_check _ _ _ (one_at _ Events _) (one_check _ _ _ (one_at _ Events _) (one_check _ _ _ (one_unfit b)
+    (one_check _ _ _ (one_at _ Events _) one_none))))
 
 clean_events : (es : List Call) → length es ≤ 4096 → EventsFit es → Clean (EventsFaulty (events_bytes es))
 clean_events es h fit f x =

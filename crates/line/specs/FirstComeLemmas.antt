@@ -31,15 +31,15 @@ took n k (x ∷ xs) ys g q e m =
     let i : g ≡ x = grind (arith, e) in
     rw (i, m) (queue_took n k x xs q)
 
--- what a take of the list is to a line of the size before, whatever size is kept beside the list after it
-pub queue_taken : (before : FirstCome) (r : Option Client) (after : FirstCome) → is_empty (view before) ≡ false
+-- what a take of the list is, seen at the size before it
+pub queue_take_sized : (before : FirstCome) (r : Option Client) (after : FirstCome) → is_empty (view before) ≡ false
     → number_of r ≡ oldest (arrivals before) → arrivals after ≡ rest (arrivals before)
     → Takes (λ l. arrivals_view before.size.clients before.size.places (arrivals l)) before r after
-queue_taken before None after some e m = grind (arith, common_steps)
-queue_taken before (Some g) after some e m = took _ _ _ _ g.number (queue before) (sym e) m
+queue_take_sized before None after some e m = grind (arith, common_steps)
+queue_take_sized before (Some g) after some e m = took _ _ _ _ g.number (queue before) (sym e) m
 
--- what it is to the line, whose size stays
+-- what a take of the list is to the line, whose size stays
 pub queue_take : (before : FirstCome) (r : Option Client) (after : FirstCome) → after.size ≡ before.size
     → is_empty (view before) ≡ false → number_of r ≡ oldest (arrivals before) → arrivals after ≡ rest (arrivals before) → Takes view before r after
-queue_take before None after s some e m = queue_taken before None after some e m
-queue_take before (Some g) after s some e m = rw s (queue_taken before (Some g) after some e m)
+queue_take before None after s some e m = queue_take_sized before None after some e m
+queue_take before (Some g) after s some e m = rw s (queue_take_sized before (Some g) after some e m)

@@ -19,7 +19,7 @@ fn run(heap: Global, input: impl Read + Drop, output: &mut impl Write) -> anyhow
 }
 
 fn main(rt: HostRuntime) -> ExitCode {
-    // By a writer of the runtime: of a write that is interrupted again and again it gives up, and ends with an error.
+    // Not `rt.stdout()`, which as good as never gives up a write that is interrupted again and again.
     match run(rt.alloc(), rt.stdin(), &mut io::writer(&rt)) {
         Ok(()) => ExitCode::SUCCESS,
         Err(error) => {
